@@ -1,0 +1,13 @@
+pub mod Bits
+pub mod CornerLaws
+pub mod Flat
+pub mod GridCounts
+pub mod GridMeaning
+pub mod GridRows
+pub mod GridSearch
+pub mod GridSkips
+pub mod Order
+pub mod Outcome
+pub mod Parity
+pub mod Skipping
+pub mod Sums

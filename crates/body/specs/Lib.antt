@@ -1,0 +1,5 @@
+pub mod Corners
+pub mod Grids
+pub mod Indexes
+pub mod Solids
+pub mod Worked
