@@ -1,0 +1,5 @@
+pub mod Jobs
+pub mod Lines
+pub mod Outputs
+pub mod Scans
+pub mod Texts
