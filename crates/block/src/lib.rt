@@ -1,4 +1,6 @@
 // Blocks: lawful corner lists in a caller's table, and what they mean.
+#![tactic(auto)]
+
 pub mod block;
 pub mod check;
 mod lines;

@@ -14,7 +14,7 @@ use tables::listing::{Listing, fill, write_all, write_one};
 
 // Whether an odd number of the cells (x, y, z) and (x - 1, y, z) are solid.
 fn odd_pair<B: Body>(body: &B, x: u16, y: u16, z: u16) -> bool
-    ensures { result ≡ changes (λ i. (meaning body.now).holds i y z) x }
+    ensures { result ≡ changes (λ i. (B.meaning body.now).holds i y z) x }
 {
     let here = body.solid(Cell { x, y, z });
     if x == 0 {
@@ -26,7 +26,7 @@ fn odd_pair<B: Body>(body: &B, x: u16, y: u16, z: u16) -> bool
 
 // The same of the four cells with x or x - 1 and y or y - 1.
 fn odd_four<B: Body>(body: &B, x: u16, y: u16, z: u16) -> bool
-    ensures { result ≡ changes (λ j. changes (λ i. (meaning body.now).holds i j z) x) y }
+    ensures { result ≡ changes (λ j. changes (λ i. (B.meaning body.now).holds i j z) x) y }
 {
     let here = odd_pair(body, x, y, z);
     if y == 0 {
@@ -38,7 +38,7 @@ fn odd_four<B: Body>(body: &B, x: u16, y: u16, z: u16) -> bool
 
 // Whether a point is a corner.
 fn is_corner<B: Body>(body: &B, x: u16, y: u16, z: u16) -> bool
-    ensures { result ≡ corner (meaning body.now).holds x y z }
+    ensures { result ≡ corner (B.meaning body.now).holds x y z }
 {
     let here = odd_four(body, x, y, z);
     if z == 0 {
@@ -155,10 +155,10 @@ impl<'a, B: Body> Listing<Point> for BodyCorners<'a, B> {
 
 // Writes the corner list of a body to the front of the table, and gives its length.
 pub fn corners<B: Body>(body: &B, table: &mut [Point]) -> Result<usize, Refusal>
-    ensures outcome { record { answer = result; table = table.new } ≡ corners_outcome (meaning body.now) table.old }
-    ensures rises { Rising (corner_list (meaning body.now)) }
-    ensures even { EvenLines (corner_list (meaning body.now)) }
-    ensures determines { Determines (corner_list (meaning body.now)) (meaning body.now).holds }
+    ensures outcome { record { answer = result; table = table.new } ≡ corners_outcome (B.meaning body.now) table.old }
+    ensures rises { Rising (corner_list (B.meaning body.now)) }
+    ensures even { EvenLines (corner_list (B.meaning body.now)) }
+    ensures determines { Determines (corner_list (B.meaning body.now)) (B.meaning body.now).holds }
 {
     let next_x = skip_table(body, Axis::X);
     let next_y = skip_table(body, Axis::Y);

@@ -11,9 +11,9 @@ pub const PLANES: usize = 1024;
 
 // The skips of a body along an axis, by plane.
 pub fn skip_table<B: Body>(body: &B, axis: Axis) -> [u16; PLANES]
-    ensures indexed { Indexed (meaning body.now) axis result }
-    ensures inside { Inside (meaning body.now) }
-    ensures small { Small (meaning body.now) }
+    ensures indexed { Indexed (B.meaning body.now) axis result }
+    ensures inside { Inside (B.meaning body.now) }
+    ensures small { Small (B.meaning body.now) }
 {
     let side = body.frame().side(axis);
     let mut next = [0u16; PLANES];
@@ -29,7 +29,7 @@ pub fn skip_table<B: Body>(body: &B, axis: Axis) -> [u16; PLANES]
 
 // The plane that a walk over the planes 0 to the side goes to from a plane.
 pub fn walk_on<B: Body>(body: &B, axis: Axis, next: &[u16; PLANES], plane: u16) -> u16
-    ensures { Indexed (meaning body.now) axis next.now → Walks (meaning body.now) axis plane result }
+    ensures { Indexed (B.meaning body.now) axis next.now → Walks (B.meaning body.now) axis plane result }
 {
     let side = body.frame().side(axis);
     if plane < side {

@@ -1,4 +1,6 @@
 // The boxes that any body is cut into, and what they are.
+#![tactic(auto)]
+
 mod line;
 mod list;
 pub mod record;

@@ -27,7 +27,7 @@ pub(crate) trait Line {
 
 // Where the stretch that holds i ends. (A line that is ready never jumps to where it is.)
 pub(crate) fn stretch_end<L: Line>(line: &L, i: u16) -> u16
-    ensures { ready line.now → i < extent line.now → holds line.now i ≡ true → result ≡ reach (holds line.now) (extent line.now) i }
+    ensures { L.ready line.now → i < L.extent line.now → L.holds line.now i ≡ true → result ≡ reach (L.holds line.now) (L.extent line.now) i }
 {
     let size = line.size();
     let mut end = line.jump(i);
@@ -73,7 +73,7 @@ impl<'a, L: Line> Line for Complement<'a, L> {
 // Where the gap ends that begins at i: the first number from i on, at which all is false, that begins a
 // stretch, or the size.
 pub(crate) fn gap_end<L: Line>(line: &L, i: u16) -> u16
-    ensures { ready line.now → i ≤ extent line.now → (i < extent line.now → holds line.now i ≡ false) → result ≡ reach (λ j. not (holds line.now j)) (extent line.now) i }
+    ensures { L.ready line.now → i ≤ L.extent line.now → (i < L.extent line.now → L.holds line.now i ≡ false) → result ≡ reach (λ j. not (L.holds line.now j)) (L.extent line.now) i }
 {
     if i < line.size() {
         stretch_end(&Complement { line }, i)
@@ -84,7 +84,7 @@ pub(crate) fn gap_end<L: Line>(line: &L, i: u16) -> u16
 
 // Where the first stretch begins, or the size.
 pub(crate) fn first_start<L: Line>(line: &L) -> u16
-    ensures { ready line.now → result ≡ reach (λ j. not (holds line.now j)) (extent line.now) 0 }
+    ensures { L.ready line.now → result ≡ reach (λ j. not (L.holds line.now j)) (L.extent line.now) 0 }
 {
     if line.at(0) {
         return 0;
@@ -94,7 +94,7 @@ pub(crate) fn first_start<L: Line>(line: &L) -> u16
 
 // Whether the stretch that holds i begins there.
 pub(crate) fn is_first<L: Line>(line: &L, i: u16) -> bool
-    ensures { ready line.now → holds line.now i ≡ true → result ≡ opens (holds line.now) i }
+    ensures { L.ready line.now → L.holds line.now i ≡ true → result ≡ opens (L.holds line.now) i }
 {
     if i == 0 {
         return true;
@@ -104,7 +104,7 @@ pub(crate) fn is_first<L: Line>(line: &L, i: u16) -> bool
 
 // Whether a stretch begins at i.
 fn begins<L: Line>(line: &L, i: u16) -> bool
-    ensures { ready line.now → result ≡ opens (holds line.now) i }
+    ensures { L.ready line.now → result ≡ opens (L.holds line.now) i }
 {
     if !line.at(i) {
         return false;
@@ -114,7 +114,7 @@ fn begins<L: Line>(line: &L, i: u16) -> bool
 
 // Whether all is true from `low`, where it is, up to `high`.
 fn covers<L: Line>(line: &L, low: u16, high: u16) -> bool
-    ensures { ready line.now → low < high → high ≤ extent line.now → holds line.now low ≡ true → result ≡ all_true (holds line.now) (high - low) low }
+    ensures { L.ready line.now → low < high → high ≤ L.extent line.now → L.holds line.now low ≡ true → result ≡ all_true (L.holds line.now) (high - low) low }
 {
     let mut at = line.jump(low);
     while at < high {
@@ -132,7 +132,7 @@ fn covers<L: Line>(line: &L, low: u16, high: u16) -> bool
 
 // Whether the numbers from `low` up to `high` are a longest stretch.
 pub(crate) fn is_stretch<L: Line>(line: &L, low: u16, high: u16) -> bool
-    ensures { ready line.now → low < high → high ≤ extent line.now → result ≡ stretch (holds line.now) (extent line.now) low high }
+    ensures { L.ready line.now → low < high → high ≤ L.extent line.now → result ≡ stretch (L.holds line.now) (L.extent line.now) low high }
 {
     if !begins(line, low) {
         return false;

@@ -32,7 +32,7 @@ fn box_of_plate<'a, B: Body>(
     b: (u16, u16),
     c: (u16, u16),
 ) -> Option<BoxRecord>
-    ensures { Viewed (meaning view.now.body.now) view.now.order view.now.next_a.now view.now.next_b.now view.now.next_c.now → PlateAt (meaning view.now.body.now) view.now.order a b.0 b.1 c.0 c.1 → option_to_list result ≡ plate_records (meaning view.now.body.now) view.now.order a b.0 b.1 c.0 c.1 }
+    ensures { Viewed (B.meaning view.now.body.now) view.now.order view.now.next_a.now view.now.next_b.now view.now.next_c.now → PlateAt (B.meaning view.now.body.now) view.now.order a b.0 b.1 c.0 c.1 → option_to_list result ≡ plate_records (B.meaning view.now.body.now) view.now.order a b.0 b.1 c.0 c.1 }
 {
     let plates = Plates {
         view,
@@ -55,7 +55,7 @@ fn box_of_run<'a, B: Body>(
     b: u16,
     c: (u16, u16),
 ) -> Option<BoxRecord>
-    ensures { Viewed (meaning view.now.body.now) view.now.order view.now.next_a.now view.now.next_b.now view.now.next_c.now → RunAt (meaning view.now.body.now) view.now.order a b c.0 c.1 → option_to_list result ≡ run_records (meaning view.now.body.now) view.now.order a b c.0 c.1 }
+    ensures { Viewed (B.meaning view.now.body.now) view.now.order view.now.next_a.now view.now.next_b.now view.now.next_c.now → RunAt (B.meaning view.now.body.now) view.now.order a b c.0 c.1 → option_to_list result ≡ run_records (B.meaning view.now.body.now) view.now.order a b c.0 c.1 }
 {
     let runs = Runs {
         view,
@@ -89,7 +89,7 @@ fn write_row<'a, B: Body>(
     table: &mut [BoxRecord],
     used: usize,
 ) -> Option<usize>
-    ensures { Viewed (meaning view.now.body.now) view.now.order view.now.next_a.now view.now.next_b.now view.now.next_c.now → record { used = result; table = table.new } ≡ write_on used (listed (records_at (meaning view.now.body.now) view.now.order a b) (side_c (meaning view.now.body.now) view.now.order) 0) table.old }
+    ensures { Viewed (B.meaning view.now.body.now) view.now.order view.now.next_a.now view.now.next_b.now view.now.next_c.now → record { used = result; table = table.new } ≡ write_on used (listed (records_at (B.meaning view.now.body.now) view.now.order a b) (side_c (B.meaning view.now.body.now) view.now.order) 0) table.old }
 {
     let row = Row { view, a, b };
     let size = row.size();

@@ -36,7 +36,7 @@ pub(crate) struct View<'a, B: Body> {
 
 // Whether the cell with given coordinates along A, B and C is solid.
 pub(crate) fn solid_along<B: Body>(body: &B, order: AxisOrder, a: u16, b: u16, c: u16) -> bool
-    ensures { result ≡ cells (meaning body.now) order a b c }
+    ensures { result ≡ cells (B.meaning body.now) order a b c }
 {
     let Point { x, y, z } = point_along(order, a, b, c);
     body.solid(Cell { x, y, z })
@@ -44,7 +44,7 @@ pub(crate) fn solid_along<B: Body>(body: &B, order: AxisOrder, a: u16, b: u16, c
 
 // A later plane, up to which all sections are as at the plane.
 pub(crate) fn next_plane<B: Body>(body: &B, axis: Axis, next: &[u16; PLANES], plane: u16) -> u16
-    ensures { Indexed (meaning body.now) axis next.now → Skips (meaning body.now) axis plane result }
+    ensures { Indexed (B.meaning body.now) axis next.now → Skips (B.meaning body.now) axis plane result }
 {
     let side = body.frame().side(axis);
     if plane < side {

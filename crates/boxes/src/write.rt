@@ -14,7 +14,7 @@ use tables::listing::fill;
 
 // Writes the boxes of a body that is seen along the axes of an order.
 fn write_viewed<'a, B: Body>(view: &'a View<'a, B>, table: &mut [BoxRecord]) -> Option<usize>
-    ensures { Viewed (meaning view.now.body.now) view.now.order view.now.next_a.now view.now.next_b.now view.now.next_c.now → record { used = result; table = table.new } ≡ filled (cut_list (meaning view.now.body.now) view.now.order) table.old }
+    ensures { Viewed (B.meaning view.now.body.now) view.now.order view.now.next_a.now view.now.next_b.now view.now.next_c.now → record { used = result; table = table.new } ≡ filled (cut_list (B.meaning view.now.body.now) view.now.order) table.old }
 {
     let boxes = BodyBoxes { view };
     fill(&boxes, table)
@@ -23,8 +23,8 @@ fn write_viewed<'a, B: Body>(view: &'a View<'a, B>, table: &mut [BoxRecord]) -> 
 // Writes the boxes of a body to the front of the table, and gives their number; none where there are
 // more than the capacity, and the table then begins with the first ones.
 pub fn write_boxes<B: Body>(body: &B, order: AxisOrder, table: &mut [BoxRecord]) -> Option<usize>
-    ensures lawful { LawfulCut (meaning body.now) order }
-    ensures boxes { record { used = result; table = table.new } ≡ filled (cut_list (meaning body.now) order) table.old }
+    ensures lawful { LawfulCut (B.meaning body.now) order }
+    ensures boxes { record { used = result; table = table.new } ≡ filled (cut_list (B.meaning body.now) order) table.old }
 {
     let (a, b, c) = order.axes();
     let next_a = skip_table(body, a);

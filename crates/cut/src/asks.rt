@@ -60,7 +60,7 @@ trait Test {
 
 // The least number above `above` of a record that passes; the first record has number 1.
 fn first_above<T: Test>(records: &[BoxRecord], test: &T, above: usize) -> Option<usize>
-    ensures { result ≡ found (passes test.now) above records.now }
+    ensures { result ≡ found (T.passes test.now) above records.now }
 {
     for i in above..records.len() {
         if test.test(records[i]) {

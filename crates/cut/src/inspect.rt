@@ -23,10 +23,10 @@ pub fn inspect<B: Body>(
     order: AxisOrder,
     table: &mut [BoxRecord],
 ) -> (B, Result<Inspection, Refusal>)
-    ensures lawful { LawfulCut (meaning body) order }
+    ensures lawful { LawfulCut (B.meaning body) order }
     ensures back { result.0 ≡ body }
-    ensures answer { result.1 ≡ inspected (meaning body) order table.old }
-    ensures table { table.new ≡ (cut_outcome (meaning body) order table.old).table }
+    ensures answer { result.1 ≡ inspected (B.meaning body) order table.old }
+    ensures table { table.new ≡ (cut_outcome (B.meaning body) order table.old).table }
 {
     match cut(body, order, table) {
         Ok(standing) => {

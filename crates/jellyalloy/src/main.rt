@@ -1,4 +1,6 @@
 // Reads a job from standard input, carries it out and prints its answers.
+#![tactic(auto)]
+
 use anyhow::anyhow;
 use report::carry::{Failure, carry_out};
 use std::io::Read;

@@ -1,3 +1,5 @@
 // Jobs: the text of one read into its calls.
+#![tactic(auto)]
+
 mod line;
 pub mod reader;

@@ -12,8 +12,8 @@ use geometry::frame::Cell;
 
 // The number of solid cells of the row along z with given x and y.
 fn row_count<B: Body>(body: &B, next_z: &[u16; PLANES], x: u16, y: u16) -> u32
-    requires { Indexed (meaning body.now) Z next_z.now }
-    ensures value { result ≡ row_cells (meaning body.now) x y }
+    requires { Indexed (B.meaning body.now) Z next_z.now }
+    ensures value { result ≡ row_cells (B.meaning body.now) x y }
     ensures bound { result ≤ 1024 }
 {
     let side = body.frame().side(Axis::Z);
@@ -30,8 +30,8 @@ fn row_count<B: Body>(body: &B, next_z: &[u16; PLANES], x: u16, y: u16) -> u32
 
 // The number of solid cells of the plane across x.
 fn plane_count<B: Body>(body: &B, next_y: &[u16; PLANES], next_z: &[u16; PLANES], x: u16) -> u32
-    requires { (Indexed (meaning body.now) Y next_y.now) × (Indexed (meaning body.now) Z next_z.now) }
-    ensures value { result ≡ plane_cells (meaning body.now) x }
+    requires { (Indexed (B.meaning body.now) Y next_y.now) × (Indexed (B.meaning body.now) Z next_z.now) }
+    ensures value { result ≡ plane_cells (B.meaning body.now) x }
     ensures bound { result ≤ 1024 * 1024 }
 {
     let side = body.frame().side(Axis::Y);
@@ -48,7 +48,7 @@ fn plane_count<B: Body>(body: &B, next_y: &[u16; PLANES], next_z: &[u16; PLANES]
 
 // The number of solid cells. Planes that a skip passes over have as many as the one it starts from.
 pub fn count_cells<B: Body>(body: &B) -> u32
-    ensures { result ≡ solid_cells (meaning body.now) }
+    ensures { result ≡ solid_cells (B.meaning body.now) }
 {
     let next_x = skip_table(body, Axis::X);
     let next_y = skip_table(body, Axis::Y);

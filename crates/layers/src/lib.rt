@@ -1,5 +1,7 @@
 // Lists of boxes as bodies, layers over any body (its complement, its translation, and two bodies
 // joined), and the number of cells of any body.
+#![tactic(auto)]
+
 pub mod boxes;
 pub mod complement;
 pub mod count;

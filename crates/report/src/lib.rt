@@ -1,3 +1,5 @@
 // What a job prints.
+#![tactic(auto)]
+
 pub mod carry;
 pub mod output;

@@ -3,7 +3,7 @@ ghost use Rattle.std.specs.Prelude.{◌≡◌, ◌++◌, map, IfOk, string_bytes
 ghost use Rattle.job.specs.Jobs.{order_word};
 ghost use Rattle.report.specs.Outputs.{answers_text, block_text, blocks_text, box_line, box_lines, counts_text, number_text, point_line, point_text, reply_text, report_text, size_text, tally_text, word_of_call};
 ghost use Rattle.script.specs.declared.call.CallName.TheVariants as names;
-ghost use Rattle.script.specs.Scripts.{boxed, held_by, inspection as inspected, listed, next, not-taken, overfull, refused, reopened, reply_of};
+ghost use Rattle.script.specs.Scripts.{boxed, held_by, inspection as inspected, listed, next, not_taken, overfull, refused, reopened, reply_of};
 ghost use Rattle.std.specs.List.{flat_map};
 
 use boxes::record::BoxRecord;
@@ -174,7 +174,7 @@ fn refused_text(heap: Global, name: CallName, refusal: Refusal) -> Result<String
 }
 
 fn not_taken_text(heap: Global, name: CallName) -> Result<String, AllocError>
-    ensures { IfOk result (λ s. string_bytes s ≡ reply_text (not-taken name)) }
+    ensures { IfOk result (λ s. string_bytes s ≡ reply_text (not_taken name)) }
 {
     let word = call_name(heap, name)?;
     format!(in heap; "{word}: not taken\n")

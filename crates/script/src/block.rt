@@ -39,7 +39,7 @@ impl<'a> Counted for PackedGrid<'a> {
 
 // The corner list, in a table of a given length.
 fn list_corners<B: Body>(heap: Global, body: &B, length: usize) -> Result<Answer, AllocError>
-    ensures { IfOk result (λ a. reply_of a ≡ corners_reply length (meaning body.now)) }
+    ensures { IfOk result (λ a. reply_of a ≡ corners_reply length (B.meaning body.now)) }
 {
     let mut table = vec![in heap; Point { x: 0, y: 0, z: 0 }; length]?;
     match corners(body, table.as_mut_slice()) {
@@ -141,7 +141,7 @@ fn cut_block<B: Body + Drop>(
 ) -> Result<(B, usize), AllocError>
     ensures forth { IfOk result (λ p. from ≤ p.1) }
     ensures back { IfOk result (λ p. p.0 ≡ body) }
-    ensures went { IfOk result (λ p. (h : Home) → runs (cut_step h (free (meaning body)) (state_of context.old) order) (drop from calls.now) ≡ runs (world h (free (meaning body)) (state_of context.new)) (drop p.1 calls.now)) }
+    ensures went { IfOk result (λ p. (h : Home) → runs (cut_step h (free (B.meaning body)) (state_of context.old) order) (drop from calls.now) ≡ runs (world h (free (B.meaning body)) (state_of context.new)) (drop p.1 calls.now)) }
 {
     match cut(body, order, context.boxes.as_mut_slice()) {
         Ok(standing) => {

@@ -1,4 +1,6 @@
 // Sequences of calls on one block after another, and their answers.
+#![tactic(auto)]
+
 mod block;
 pub mod call;
 mod context;

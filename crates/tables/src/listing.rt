@@ -44,7 +44,7 @@ pub fn write_one<E: Copy>(entry: E, table: &mut [E], used: usize) -> Option<usiz
 
 // Writes all planes behind the `used` first entries, and stops where the table is full.
 pub fn write_all<E: Copy, L: Listing<E>>(listing: &L, table: &mut [E], used: usize) -> Option<usize>
-    ensures { ready listing.now → record { used = result; table = table.new } ≡ write_on used (listed (part listing.now) (parts listing.now) 0) table.old }
+    ensures { L.ready listing.now → record { used = result; table = table.new } ≡ write_on used (listed (L.part listing.now) (L.parts listing.now) 0) table.old }
 {
     let planes = listing.planes();
     let mut used = used;
@@ -59,7 +59,7 @@ pub fn write_all<E: Copy, L: Listing<E>>(listing: &L, table: &mut [E], used: usi
 // Writes the listing to the front of the table, and gives its length; none where it is longer than
 // the capacity, and the table then begins with as much of it as the capacity takes.
 pub fn fill<E: Copy, L: Listing<E>>(listing: &L, table: &mut [E]) -> Option<usize>
-    ensures { ready listing.now → record { used = result; table = table.new } ≡ filled (listed (part listing.now) (parts listing.now) 0) table.old }
+    ensures { L.ready listing.now → record { used = result; table = table.new } ≡ filled (listed (L.part listing.now) (L.parts listing.now) 0) table.old }
 {
     let capacity = table.len().min(CAPACITY);
     write_all(listing, &mut table[0..capacity], 0)

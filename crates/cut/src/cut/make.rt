@@ -16,8 +16,8 @@ pub fn cut<B: Body>(
     order: AxisOrder,
     table: &mut [BoxRecord],
 ) -> Result<Cut<B>, (B, Refusal)>
-    ensures lawful { LawfulCut (meaning body) order }
-    ensures outcome { elim result [ Ok k ↦ (record { answer = Ok k.count; table = table.new } ≡ cut_outcome (meaning body) order table.old) × (k.body ≡ body) × (k.order ≡ order) | Err p ↦ (record { answer = Err p.1; table = table.new } ≡ cut_outcome (meaning body) order table.old) × (p.0 ≡ body) ] }
+    ensures lawful { LawfulCut (B.meaning body) order }
+    ensures outcome { elim result [ Ok k ↦ (record { answer = Ok k.count; table = table.new } ≡ cut_outcome (B.meaning body) order table.old) × (k.body ≡ body) × (k.order ≡ order) | Err p ↦ (record { answer = Err p.1; table = table.new } ≡ cut_outcome (B.meaning body) order table.old) × (p.0 ≡ body) ] }
 {
     match write_boxes(&body, order, table) {
         Some(count) => Ok(Cut { body, order, count }),

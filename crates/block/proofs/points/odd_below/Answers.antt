@@ -9,7 +9,7 @@ loop-point-preserved c =
     let cell = c.args.cell in
     let odd = c.loop-point.odd in
     parity_on (at_or_below cell.x cell.y cell.z) c.args.points.now c.loop-point.point-index _ odd _ _ c.loop-point-test.true c.loop-point.invariant
-    (xor_differ odd c.is-below-odd.result ∙ ap (differ odd) c.is-below-odd.ensures)
+    (xor_differ odd c.is_below-odd.result ∙ ap (differ odd) c.is_below-odd.ensures)
 
 pub returns : goal.returns
 returns c =

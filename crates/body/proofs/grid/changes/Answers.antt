@@ -16,11 +16,11 @@ returns c b h pos =
     elim c.if-w-eq0.branch [
       | then-w-eq0 v ↦ (omega arith, λ positive. absurd (omega arith))
       | else-w-eq0 v ↦ (
-        omega (arith, top_small _ v.word_at.type-inv),
+        omega (arith, top_small _ v.word_at.type_inv),
         λ _ k e.
-            ap (λ (n : ℕ). eqb n 1) v.before_is ∙ top_is v.word_at.result k v.word_at.type-inv e
+            ap (λ (n : ℕ). eqb n 1) v.before-is ∙ top_is v.word_at.result k v.word_at.type_inv e
             ∙ ap (λ (n : ℕ). bit n k) (v.word_at.ensures ∙ ap (λ (n : ℕ). get_or words n 0) (omega arith)),
       )
     ]
     in
-    ap (λ (r : ℕ). bit (bit_xor r (bit_or ((r * 2) % 2 ^ 64) before)) b) c.word-at-word.ensures ∙ changes_at words base w before b h pos carried.0 carried.1
+    ap (λ (r : ℕ). bit (bit_xor r (bit_or ((r * 2) % 2 ^ 64) before)) b) c.word_at-word.ensures ∙ changes_at words base w before b h pos carried.0 carried.1

@@ -12,7 +12,7 @@ returns-then-zeros-lt64 c =
     let at = c.loop-at.at in
     let changes = c.changes.result in
     let is = c.min.ensures in
-    let past = changes_past words base at changes (omega arith) c.changes.ensures c.changes.type-inv c.if-zeros-lt64.true in
+    let past = changes_past words base at changes (omega arith) c.changes.ensures c.changes.type_inv c.if-zeros-lt64.true in
     found_first (row_differs words base) c.args.from c.args.limit c.min.result (omega arith) (record {
       from = omega arith;
       to = omega arith;

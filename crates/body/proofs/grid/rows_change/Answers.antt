@@ -13,11 +13,11 @@ returns-then-best-from c =
     let at = c.if-best-from.true in
     at ∙ rows_rest c.args.words.now c.args.width c.args.from c.args.limit (omega arith) c.loop-row.row c.args.rows (omega arith) (sym at ∙ c.loop-row.invariant)
 
-pub row-change-best-requires : goal.row-change-best-requires
-row-change-best-requires c =
+pub row_change-best-requires : goal.row_change-best-requires
+row_change-best-requires c =
     let found = search_found (rows_differ c.args.words.now c.args.width c.loop-row.row) c.args.from c.args.limit (omega arith) in
     let place = mul-le c.loop-row.row c.args.width (2 ^ 20) 16 (omega arith) (omega arith) in
     (omega (arith, place), (omega arith, (omega (arith, found.from, c.loop-row.invariant), omega (arith, found.to, c.loop-row.invariant))))
 
 pub loop-row-preserved : goal.loop-row-preserved
-loop-row-preserved c = rows_more c.args.words.now c.args.width c.args.from c.args.limit (omega arith) c.loop-row.row c.loop-row.best _ c.loop-row.invariant c.row-change-best.ensures
+loop-row-preserved c = rows_more c.args.words.now c.args.width c.args.from c.args.limit (omega arith) c.loop-row.row c.loop-row.best _ c.loop-row.invariant c.row_change-best.ensures

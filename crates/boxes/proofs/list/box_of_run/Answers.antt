@@ -14,7 +14,7 @@ returns g c viewed run =
     let b = c.args.b in
     let c0 = c.args.c.0 in
     let c1 = c.args.c.1 in
-    let first : opens (is_run m o a c0 c1) b ≡ true = sym (c.is-first.ensures (viewed.along_b, viewed.along_c, run.c_some, run.c_within) run.runs) ∙ c.if-not-is-first.false in
-    let end : c.stretch-end-b-end.result ≡ reach (is_run m o a c0 c1) (side_b m o) b = c.stretch-end-b-end.ensures (viewed.along_b, viewed.along_c, run.c_some, run.c_within) run.b_below run.runs in
-    let plate : PlateAt m o a b c.stretch-end-b-end.result c0 c1 = subst (λ e. PlateAt m o a b e c0 c1) (sym end) (plate_begun m o a b c0 c1 run first) in
+    let first : opens (is_run m o a c0 c1) b ≡ true = sym (c.is_first.ensures (viewed.along_b, viewed.along_c, run.c_some, run.c_within) run.runs) ∙ c.if-not-is_first.false in
+    let end : c.stretch_end-b_end.result ≡ reach (is_run m o a c0 c1) (side_b m o) b = c.stretch_end-b_end.ensures (viewed.along_b, viewed.along_c, run.c_some, run.c_within) run.b_below run.runs in
+    let plate : PlateAt m o a b c.stretch_end-b_end.result c0 c1 = subst (λ e. PlateAt m o a b e c0 c1) (sym end) (plate_begun m o a b c0 c1 run first) in
     c.box_of_plate.ensures viewed plate ∙ ap (λ e. plate_records m o a b e c0 c1) end ∙ sym (run_records_begun m o a b c0 c1 first)

@@ -10,8 +10,8 @@ loop-item-init c = (sym (volume_none c.args.records.now), omega arith)
 pub loop-item-preserved : goal.loop-item-preserved
 loop-item-preserved c =
     let inv = c.loop-item.invariant in (
-      volume_more c.args.records.now c.loop-item.item-index _ c.loop-item-test.true _ _ inv.0 c.cell-count-total.ensures.value,
-      omega (arith, inv.1, c.cell-count-total.ensures.bound),
+      volume_more c.args.records.now c.loop-item.item-index _ c.loop-item-test.true _ _ inv.0 c.cell_count-total.ensures.value,
+      omega (arith, inv.1, c.cell_count-total.ensures.bound),
     )
 
 pub returns : goal.returns

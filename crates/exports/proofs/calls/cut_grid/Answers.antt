@@ -8,8 +8,8 @@ use Rattle.exports.proofs.calls.cut_grid.Goals as goal
 
 pub returns-in-Some : goal.returns-in-Some
 returns-in-Some c =
-    cut_outcome_is (packed (sides c.args.grid.frame) c.args.grid.words.now) c.args.order _ _ _ _ c.write-boxes.ensures.boxes (ap (λ u. ok_or u BoxesFull) (sym c.in-Some.is))
+    cut_outcome_is (packed (sides c.args.grid.frame) c.args.grid.words.now) c.args.order _ _ _ _ c.write_boxes.ensures.boxes (ap (λ u. ok_or u BoxesFull) (sym c.in-Some.is))
 
 pub returns-in-None : goal.returns-in-None
 returns-in-None c =
-    cut_outcome_is (packed (sides c.args.grid.frame) c.args.grid.words.now) c.args.order _ _ _ _ c.write-boxes.ensures.boxes (ap (λ u. ok_or u BoxesFull) (sym c.in-None.is))
+    cut_outcome_is (packed (sides c.args.grid.frame) c.args.grid.words.now) c.args.order _ _ _ _ c.write_boxes.ensures.boxes (ap (λ u. ok_or u BoxesFull) (sym c.in-None.is))

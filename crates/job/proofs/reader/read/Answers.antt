@@ -5,7 +5,7 @@ use Rattle.job.proofs.Saying.{all_read}
 use Rattle.job.proofs.reader.read.Goals as goal
 
 pub returns : goal.returns
-returns c = record { reads = all_read _ _ _ _ _ c.in-default.ensures.lines.0 c.loop-line.invariant.0; line = tt; malformed = tt }
+returns c = record { reads = all_read _ _ _ _ _ c.in_default.ensures.lines.0 c.loop-line.invariant.0; line = tt; malformed = tt }
 
 pub returns-in-Err : goal.returns-in-Err
 returns-in-Err c = record {

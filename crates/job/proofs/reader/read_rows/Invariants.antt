@@ -7,6 +7,6 @@ use Rattle.job.proofs.reader.read_rows.Given as goal
 abbrev pub invariant-loop-i : goal.invariant-loop-i
 invariant-loop-i l =
     Later l.initial.text l.text
-    × Rows l.-i l.side (left l.initial.text)
-    × (vec_items l.cells ≡ flat_map row_cells (take l.-i (left l.initial.text)))
-    × (left l.text ≡ drop l.-i (left l.initial.text))
+    × Rows l._i l.side (left l.initial.text)
+    × (vec_items l.cells ≡ flat_map row_cells (take l._i (left l.initial.text)))
+    × (left l.text ≡ drop l._i (left l.initial.text))

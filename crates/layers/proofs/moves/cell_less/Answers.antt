@@ -5,24 +5,24 @@ use Rattle.geometry.specs.declared.axis.Axis.TheVariants.{Y, Z}
 use Rattle.layers.specs.Layers.{cell_less, less}
 use Rattle.layers.proofs.moves.cell_less.Goals as goal
 
-pub returns-in-err-x : goal.returns-in-err-x
-returns-in-err-x c h = rw c.from-residual.ensures (and_right _ _ (c.in-err-x.ensures _))
+pub returns-in_err-x : goal.returns-in_err-x
+returns-in_err-x c h = rw c.from_residual.ensures (and_right _ _ (c.in_err-x.ensures _))
 
-pub returns-in-err-y : goal.returns-in-err-y
-returns-in-err-y c h = rw c.from-residual-in-err-y.ensures (and_right _ _ (c.in-ok-x.ensures _ ∙ c.in-err-y.ensures _))
+pub returns-in_err-y : goal.returns-in_err-y
+returns-in_err-y c h = rw c.from_residual-in_err-y.ensures (and_right _ _ (c.in_ok-x.ensures _ ∙ c.in_err-y.ensures _))
 
-pub returns-in-err-z : goal.returns-in-err-z
-returns-in-err-z c h =
-    rw c.from-residual-in-err-z.ensures (and_right _ _ (c.in-ok-x.ensures _ ∙ c.in-ok-y.ensures _ ∙ c.in-err-z.ensures _))
+pub returns-in_err-z : goal.returns-in_err-z
+returns-in_err-z c h =
+    rw c.from_residual-in_err-z.ensures (and_right _ _ (c.in_ok-x.ensures _ ∙ c.in_ok-y.ensures _ ∙ c.in_err-z.ensures _))
 
 pub returns : goal.returns
 returns c h =
     let d = steps c.args.shift in
     let j = c.args.cell.y in
     let k = c.args.cell.z in
-    let x = c.in-ok-x.x in
-    let y = c.in-ok-y.y in
+    let x = c.in_ok-x.x in
+    let y = c.in_ok-y.y in
     ap (λ b. b && cell_less d h c.args.cell.x j k) (sym c.if-not-holds.ensures)
-    ∙ c.in-ok-x.ensures (λ i. less (d Y) (λ n. less (d Z) (h i n) k) j)
-    ∙ c.in-ok-y.ensures (λ n. less (d Z) (h x n) k)
-    ∙ c.in-ok-z.ensures (h x y)
+    ∙ c.in_ok-x.ensures (λ i. less (d Y) (λ n. less (d Z) (h i n) k) j)
+    ∙ c.in_ok-y.ensures (λ n. less (d Z) (h x n) k)
+    ∙ c.in_ok-z.ensures (h x y)

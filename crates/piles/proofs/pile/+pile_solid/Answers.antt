@@ -14,9 +14,9 @@ returns-in-Some t c =
     let i = c.args.cell.x in
     let j = c.args.cell.y in
     let k = c.args.cell.z in
-    c.pile-solid.ensures
+    c.pile_solid.ensures
     ∙ sym (c.in-Some.ensures (piled y).holds)
-    ∙ ap (λ s. in_frame s i j k && cell_less d (piled y).holds i j k) c.pile-frame.ensures.frame
+    ∙ ap (λ s. in_frame s i j k && cell_less d (piled y).holds i j k) c.pile_frame.ensures.frame
     ∙ sym (ap (λ (m : Solid). m.holds i j k) (ap piled c.in-Translated.is ∙ ap (λ (x : Pile). translated d (piled x)) (sym c.deref-below.ensures)))
 
 pub returns-in-None : goal.returns-in-None
@@ -27,5 +27,5 @@ returns-in-None t c =
     let j = c.args.cell.y in
     let k = c.args.cell.z in
     sym (c.in-None.ensures (piled y).holds)
-    ∙ ap (λ s. in_frame s i j k && cell_less d (piled y).holds i j k) c.pile-frame.ensures.frame
+    ∙ ap (λ s. in_frame s i j k && cell_less d (piled y).holds i j k) c.pile_frame.ensures.frame
     ∙ sym (ap (λ (m : Solid). m.holds i j k) (ap piled c.in-Translated.is ∙ ap (λ (x : Pile). translated d (piled x)) (sym c.deref-below.ensures)))

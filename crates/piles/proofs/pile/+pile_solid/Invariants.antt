@@ -1,5 +1,5 @@
 use Rattle.piles.specs.Piles.{pile_size}
 use Rattle.piles.proofs.pile.+pile_solid.Given as goal
 
-abbrev pub decreases-pile-solid : goal.decreases-pile-solid
-decreases-pile-solid l = pile_size l.pile.now
+abbrev pub decreases-pile_solid : goal.decreases-pile_solid
+decreases-pile_solid l = pile_size l.pile.now

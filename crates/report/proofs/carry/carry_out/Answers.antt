@@ -6,11 +6,11 @@ use Rattle.report.proofs.carry.carry_out.Goals as goal
 
 pub returns : goal.returns
 returns c =
-    let calls = vec_items c.in-ok-calls.calls in
-    let same = c.as-slice.ensures.value in
-    let went = c.in-ok-report.ensures in (
+    let calls = vec_items c.in_ok-calls.calls in
+    let same = c.as_slice.ensures.value in
+    let went = c.in_ok-report.ensures in (
       calls,
-      c.in-ok-calls.ensures.reads,
-      c.in-ok-output.ensures
-          ∙ report_prints c.in-ok-report.report calls (went.answers ∙ ap (λ l. (ran l).state.replies) same) (went.blocks ∙ ap (λ l. (ran l).home.blocks) same) (went.last ∙ ap (λ l. option_map size_of (block_of (ran l).held)) same),
+      c.in_ok-calls.ensures.reads,
+      c.in_ok-output.ensures
+          ∙ report_prints c.in_ok-report.report calls (went.answers ∙ ap (λ l. (ran l).state.replies) same) (went.blocks ∙ ap (λ l. (ran l).home.blocks) same) (went.last ∙ ap (λ l. option_map size_of (block_of (ran l).held)) same),
     )

@@ -4,5 +4,5 @@ use Rattle.report.proofs.output.inspection_text.Goals as goal
 pub returns : goal.returns
 returns c =
     let i = c.args.inspection in
-    let e : string_bytes c.in-ok-text.text ≡ codes "inspect " ++ (c.order-name-order.result.now ++ (codes ": " ++ (decimal i.boxes ++ (codes " boxes, volume " ++ (decimal i.volume ++ codes "\n"))))) = c.in-ok-text.ensures.ok in
-    e ∙ ap (λ o. codes "inspect " ++ (o ++ (codes ": " ++ (decimal i.boxes ++ (codes " boxes, volume " ++ (decimal i.volume ++ codes "\n")))))) c.order-name-order.ensures
+    let e : string_bytes c.in_ok-text.text ≡ codes "inspect " ++ (c.order_name-order.result.now ++ (codes ": " ++ (decimal i.boxes ++ (codes " boxes, volume " ++ (decimal i.volume ++ codes "\n"))))) = c.in_ok-text.ensures.ok in
+    e ∙ ap (λ o. codes "inspect " ++ (o ++ (codes ": " ++ (decimal i.boxes ++ (codes " boxes, volume " ++ (decimal i.volume ++ codes "\n")))))) c.order_name-order.ensures

@@ -7,15 +7,15 @@ use Rattle.script.specs.declared.call.BlockCall.TheVariants.{Inspect}
 use Rattle.script.specs.declared.call.CallName.TheVariants as names
 use Rattle.script.proofs.block.ask_block.Goals as goal
 
-pub returns-in-ok-tell : goal.returns-in-ok-tell
-returns-in-ok-tell g c =
+pub returns-in_ok-tell-in-Inspect : goal.returns-in_ok-tell-in-Inspect
+returns-in_ok-tell-in-Inspect g c =
     let m = g.B.Body.meaning c.args.body.now in
     let o = c.in-Inspect.order in
     let s = state_of c.args.context.now in
-    let kept = with_items_is c.args.context.now.boxes c.inspect-measured.new.table (c.inspect-measured.auto.table ∙ c.as-mut-slice.ensures.len) in
-    let was = c.as-mut-slice.ensures.value in
-    c.in-ok-tell.ensures
+    let kept = with_items_is c.args.context.now.boxes c.inspect-measured.new.table (c.inspect-measured.auto.table ∙ c.as_mut_slice.ensures.len) in
+    let was = c.as_mut_slice.ensures.value in
+    c.in_ok-tell-in-Inspect.ensures
     ∙ ap₂ (λ l r. told (with_boxes s l) r)
     (kept ∙ c.inspect-measured.ensures.table ∙ ap (λ l. (cut_outcome m o l).table) was)
-    (c.inspection-answer-answer.ensures ∙ ap (answered (names.Block (Inspect o)) (inspection o)) (c.inspect-measured.ensures.answer ∙ ap (inspected m o) was))
+    (c.inspection_answer-answer.ensures ∙ ap (answered (names.Block (Inspect o)) (inspection o)) (c.inspect-measured.ensures.answer ∙ ap (inspected m o) was))
     ∙ ap (on_block m s) (sym c.in-Inspect.is)

@@ -10,38 +10,38 @@ returns-in-Make g c =
     let first = ends_first c.args.calls.now c.args.at c.index-calls-at.result c.requires.0 c.index-calls-at.is in
     absurd (both_ways _ c.requires.1 (first ∙ made))
 
-pub returns-in-ok-set-table : goal.returns-in-ok-set-table
-returns-in-ok-set-table g c = record {
+pub returns-in_ok-set_table-in-SetTable : goal.returns-in_ok-set_table-in-SetTable
+returns-in_ok-set_table-in-SetTable g c = record {
   forth = omega arith;
   back = refl;
   went = λ h.
       let w = world h (free (g.B.Body.meaning c.args.body)) (state_of c.args.context.now) in
-      runs_more c.args.calls.now c.args.at c.index-calls-at.result c.requires.0 c.index-calls-at.is w _ (ap (step w) c.in-SetTable.is ∙ ap (λ s. world h (free (g.B.Body.meaning c.args.body)) s) (sym c.in-ok-set-table.ensures));
+      runs_more c.args.calls.now c.args.at c.index-calls-at.result c.requires.0 c.index-calls-at.is w _ (ap (step w) c.in-SetTable.is ∙ ap (λ s. world h (free (g.B.Body.meaning c.args.body)) s) (sym c.in_ok-set_table-in-SetTable.ensures));
 }
 
-pub returns-in-ok-ask-block : goal.returns-in-ok-ask-block
-returns-in-ok-ask-block g c = record {
+pub returns-in_ok-ask_block-in-OnBlock : goal.returns-in_ok-ask_block-in-OnBlock
+returns-in_ok-ask_block-in-OnBlock g c = record {
   forth = omega arith;
   back = refl;
   went = λ h.
       let w = world h (free (g.B.Body.meaning c.args.body)) (state_of c.args.context.now) in
-      runs_more c.args.calls.now c.args.at c.index-calls-at.result c.requires.0 c.index-calls-at.is w _ (ap (step w) c.in-OnBlock.is ∙ ap (λ s. world h (free (g.B.Body.meaning c.args.body)) s) (sym c.in-ok-ask-block.ensures));
+      runs_more c.args.calls.now c.args.at c.index-calls-at.result c.requires.0 c.index-calls-at.is w _ (ap (step w) c.in-OnBlock.is ∙ ap (λ s. world h (free (g.B.Body.meaning c.args.body)) s) (sym c.in_ok-ask_block-in-OnBlock.ensures));
 }
 
-pub returns-in-ok-tell : goal.returns-in-ok-tell
-returns-in-ok-tell g c = record {
+pub returns-in_ok-tell-in-OnCut : goal.returns-in_ok-tell-in-OnCut
+returns-in_ok-tell-in-OnCut g c = record {
   forth = omega arith;
   back = refl;
   went = λ h.
       let w = world h (free (g.B.Body.meaning c.args.body)) (state_of c.args.context.now) in
-      runs_more c.args.calls.now c.args.at c.index-calls-at.result c.requires.0 c.index-calls-at.is w _ (ap (step w) c.in-OnCut.is ∙ ap (λ s. world h (free (g.B.Body.meaning c.args.body)) s) (sym c.in-ok-tell.ensures));
+      runs_more c.args.calls.now c.args.at c.index-calls-at.result c.requires.0 c.index-calls-at.is w _ (ap (step w) c.in-OnCut.is ∙ ap (λ s. world h (free (g.B.Body.meaning c.args.body)) s) (sym c.in_ok-tell-in-OnCut.ensures));
 }
 
-pub returns-in-ok-back : goal.returns-in-ok-back
-returns-in-ok-back g c = record {
-  forth = omega (arith, c.in-ok-back.ensures.forth);
-  back = c.in-ok-back.ensures.back;
+pub returns-in_ok-back-in-Cut : goal.returns-in_ok-back-in-Cut
+returns-in_ok-back-in-Cut g c = record {
+  forth = omega (arith, c.in_ok-back-in-Cut.ensures.forth);
+  back = c.in_ok-back-in-Cut.ensures.back;
   went = λ h.
       let w = world h (free (g.B.Body.meaning c.args.body)) (state_of c.args.context.now) in
-      runs_more c.args.calls.now c.args.at c.index-calls-at.result c.requires.0 c.index-calls-at.is w _ (ap (step w) c.in-Cut.is) ∙ c.in-ok-back.ensures.went h;
+      runs_more c.args.calls.now c.args.at c.index-calls-at.result c.requires.0 c.index-calls-at.is w _ (ap (step w) c.in-Cut.is) ∙ c.in_ok-back-in-Cut.ensures.went h;
 }

@@ -7,40 +7,40 @@ use Rattle.script.specs.Scripts.{boxed, free, overfull, runs, standing, state_of
 use Rattle.script.proofs.Fronts.{cut_overfull, cut_stands}
 use Rattle.script.proofs.block.cut_block.Goals as goal
 
-pub returns-in-ok-asked : goal.returns-in-ok-asked
-returns-in-ok-asked g c =
+pub returns-in_ok-asked-in-Ok : goal.returns-in_ok-asked-in-Ok
+returns-in_ok-asked-in-Ok g c =
     let m = g.B.Body.meaning c.args.body in
     let o = c.args.order in
     let s = state_of c.args.context.now in
     let n = c.in-Ok.standing.count in
     let left = drop c.args.from c.args.calls.now in
     let was = c.in-Ok.ensures.outcome in
-    let kept = with_items_is c.args.context.now.boxes c.cut.new.table (c.cut.auto.table ∙ c.as-mut-slice.ensures.len) in
+    let kept = with_items_is c.args.context.now.boxes c.cut.new.table (c.cut.auto.table ∙ c.as_mut_slice.ensures.len) in
     let boxes = vec_items (with_items c.args.context.now.boxes c.cut.new.table) in
     record {
-      forth = c.in-ok-asked.ensures.forth;
+      forth = c.in_ok-asked-in-Ok.ensures.forth;
       back = c.reopen-body.ensures ∙ was.1;
       went = λ h.
-          ap (λ w. runs w left) (cut_stands h m o s _ n (was.0 ∙ ap (cut_outcome m o) c.as-mut-slice.ensures.value))
+          ap (λ w. runs w left) (cut_stands h m o s _ n (was.0 ∙ ap (cut_outcome m o) c.as_mut_slice.ensures.value))
           ∙ ap (λ l. runs (world h (standing m o n) (told (with_boxes s l) (boxed o (take n l)))) left) (sym kept)
           ∙ ap (λ p. runs (world h (standing m p n) (told (with_boxes s boxes) (boxed p (take n boxes)))) left) (sym was.2)
-          ∙ c.in-ok-asked.ensures.went m h;
+          ∙ c.in_ok-asked-in-Ok.ensures.went m h;
     }
 
-pub returns-in-ok-tell-overfull : goal.returns-in-ok-tell-overfull
-returns-in-ok-tell-overfull g c =
+pub returns-in_ok-tell_overfull-in-Err : goal.returns-in_ok-tell_overfull-in-Err
+returns-in_ok-tell_overfull-in-Err g c =
     let m = g.B.Body.meaning c.args.body in
     let o = c.args.order in
     let s = state_of c.args.context.now in
     let x = c.in-Err.refusal in
     let left = drop c.args.from c.args.calls.now in
     let was = c.in-Err.ensures.outcome in
-    let kept = with_items_is c.args.context.now.boxes c.cut.new.table (c.cut.auto.table ∙ c.as-mut-slice.ensures.len) in
+    let kept = with_items_is c.args.context.now.boxes c.cut.new.table (c.cut.auto.table ∙ c.as_mut_slice.ensures.len) in
     record {
       forth = omega arith;
       back = was.1;
       went = λ h.
-          ap (λ w. runs w left) (cut_overfull h m o s _ x (was.0 ∙ ap (cut_outcome m o) c.as-mut-slice.ensures.value) (c.cut.auto.table ∙ ap length c.as-mut-slice.ensures.value))
+          ap (λ w. runs w left) (cut_overfull h m o s _ x (was.0 ∙ ap (cut_outcome m o) c.as_mut_slice.ensures.value) (c.cut.auto.table ∙ ap length c.as_mut_slice.ensures.value))
           ∙ ap (λ l. runs (world h (free m) (told (with_boxes s l) (overfull o x (take (capacity l) l)))) left) (sym kept)
-          ∙ ap (λ t. runs (world h (free m) t) left) (sym c.in-ok-tell-overfull.ensures);
+          ∙ ap (λ t. runs (world h (free m) t) left) (sym c.in_ok-tell_overfull-in-Err.ensures);
     }

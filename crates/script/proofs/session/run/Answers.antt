@@ -5,11 +5,11 @@ use Rattle.script.specs.Scripts.{block_of, held_of, home_of, size_of, state_of, 
 use Rattle.script.proofs.Running.{block_again, runs_over}
 use Rattle.script.proofs.session.run.Goals as goal
 
-pub returns-in-err-context : goal.returns-in-err-context
-returns-in-err-context c = record { answers = search rules; blocks = search rules; last = search rules; lawful = lawful_cut }
+pub returns-in_err-context : goal.returns-in_err-context
+returns-in_err-context c = record { answers = search rules; blocks = search rules; last = search rules; lawful = lawful_cut }
 
-pub returns-in-err-after : goal.returns-in-err-after
-returns-in-err-after c = record { answers = search rules; blocks = search rules; last = search rules; lawful = lawful_cut }
+pub returns-in_err-after : goal.returns-in_err-after
+returns-in_err-after c = record { answers = search rules; blocks = search rules; last = search rules; lawful = lawful_cut }
 
 pub returns : goal.returns
 returns c =
@@ -19,6 +19,6 @@ returns c =
     record {
       answers = sym (ap (λ v. v.state.replies) end);
       blocks = sym (ap (λ v. v.home.blocks) end);
-      last = c.block-size-last.ensures ∙ sym (ap (option_map size_of) (ap (λ v. block_of v.held) end ∙ block_again _));
+      last = c.block_size-last.ensures ∙ sym (ap (option_map size_of) (ap (λ v. block_of v.held) end ∙ block_again _));
       lawful = lawful_cut;
     }

@@ -9,9 +9,9 @@ returns-in-Make c = record {
   within = λ _. c.if-at-calls.true;
 }
 
-pub returns-in-default : goal.returns-in-default
-returns-in-default c = record {
-  ends = sym (ends_first c.args.calls.now c.args.at c.index-calls-at.result c.if-at-calls.true c.index-calls-at.is ∙ ends_unmade c.index-calls-at.result c.in-default.not-Make);
+pub returns-in_default : goal.returns-in_default
+returns-in_default c = record {
+  ends = sym (ends_first c.args.calls.now c.args.at c.index-calls-at.result c.if-at-calls.true c.index-calls-at.is ∙ ends_unmade c.index-calls-at.result c.in_default.not-Make);
   within = λ _. c.if-at-calls.true;
 }
 

@@ -3,8 +3,8 @@ use Rattle.script.specs.Scripts.{free, standing, state_of, world}
 use Rattle.script.proofs.Running.{ends_first, runs_more, runs_reopened}
 use Rattle.script.proofs.standing.while_standing.Goals as goal
 
-pub standing-step-requires : goal.standing-step-requires
-standing-step-requires g c =
+pub standing_step-requires : goal.standing_step-requires
+standing_step-requires g c =
     sym (ends_first c.args.calls.now c.loop-context.at c.index-calls-at.result (c.loop-context-test.ensures.within refl) c.index-calls-at.is) ∙ sym c.loop-context-test.ensures.ends
 
 pub returns-then-reopened : goal.returns-then-reopened
@@ -12,10 +12,10 @@ returns-then-reopened g c = record {
   forth = omega (arith, c.loop-context.invariant.0);
   went = λ m h.
       let up = standing m c.args.standing.now.order c.args.standing.now.count in
-      let after = state_of c.standing-step.new.context in
+      let after = state_of c.standing_step.new.context in
       c.loop-context.invariant.1 m h
       ∙ runs_more c.args.calls.now c.loop-context.at c.index-calls-at.result (c.loop-context-test.ensures.within refl) c.index-calls-at.is (world h up (state_of c.loop-context.context)) (world h (free m) after)
-      (c.in-ok-reopened.ensures m h ∙ ap (λ b. world h (cond b (free m) up) after) c.if-reopened.true);
+      (c.in_ok-reopened.ensures m h ∙ ap (λ b. world h (cond b (free m) up) after) c.if-reopened.true);
 }
 
 pub loop-context-preserved : goal.loop-context-preserved
@@ -23,10 +23,10 @@ loop-context-preserved g c = (
   omega (arith, c.loop-context.invariant.0),
   λ m h.
       let up = standing m c.args.standing.now.order c.args.standing.now.count in
-      let after = state_of c.standing-step.new.context in
+      let after = state_of c.standing_step.new.context in
       c.loop-context.invariant.1 m h
       ∙ runs_more c.args.calls.now c.loop-context.at c.index-calls-at.result (c.loop-context-test.ensures.within refl) c.index-calls-at.is (world h up (state_of c.loop-context.context)) (world h up after)
-      (c.in-ok-reopened.ensures m h ∙ ap (λ b. world h (cond b (free m) up) after) c.if-reopened.false),
+      (c.in_ok-reopened.ensures m h ∙ ap (λ b. world h (cond b (free m) up) after) c.if-reopened.false),
 )
 
 pub returns : goal.returns

@@ -4,8 +4,8 @@ use Rattle.text.proofs.scan.push_row.Goals as goal
 
 pub loop-byte-preserved : goal.loop-byte-preserved
 loop-byte-preserved c =
-    let cell = c.in-ok-cell-of.ensures.cell in (
-      cells_more _ _ _ _ _ _ c.loop-byte-test.true c.loop-byte.invariant.0 cell.1 c.in-ok-push.ensures.items,
+    let cell = c.in_ok-cell_of.ensures.cell in (
+      cells_more _ _ _ _ _ _ c.loop-byte-test.true c.loop-byte.invariant.0 cell.1 c.in_ok-push.ensures.items,
       below_more _ _ c.loop-byte.invariant.1 cell.0,
     )
 

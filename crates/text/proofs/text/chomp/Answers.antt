@@ -1,8 +1,8 @@
 use Rattle.text.proofs.Reading.{chomped_cut, chomped_none, chomped_same}
 use Rattle.text.proofs.text.chomp.Goals as goal
 
-pub returns-in-default : goal.returns-in-default
-returns-in-default c = chomped_none _ c.in-default.ensures.cases
+pub returns-in_default : goal.returns-in_default
+returns-in_default c = chomped_none _ c.in_default.ensures.cases
 
 pub returns-then-last-eq13 : goal.returns-then-last-eq13
 returns-then-last-eq13 c = chomped_cut _ _ _ c.in-Some.ensures.cases.0 c.if-last-eq13.true

@@ -10,8 +10,8 @@ returns-then-plane-side c =
     let l = c.args.self.now.corners.now in
     let a = c.args.axis in
     let p = c.args.plane in
-    let value : c.plane-after.result ≡ list_skip s l a p =
-    c.plane-after.ensures ∙ ap (next_plane a p l) c.side-side.ensures ∙ sym (skip_within s l a p (omega (arith, c.side-side.ensures))) in
+    let value : c.plane_after.result ≡ list_skip s l a p =
+    c.plane_after.ensures ∙ ap (next_plane a p l) c.side-side.ensures ∙ sym (skip_within s l a p (omega (arith, c.side-side.ensures))) in
     record { value = value; lawful = skip_lawful s l a p _ value }
 
 pub returns-else-plane-side : goal.returns-else-plane-side

@@ -7,6 +7,6 @@ returns g c =
     let self = c.args.self.now in
     let m = g.B.Body.meaning self.body.now in
     record {
-      bounds = λ ready. walk_bounds m Y _ _ (c.walk-on.ensures ready.0);
-      between = λ ready. flat_row m self.x _ _ (c.walk-on.ensures ready.0);
+      bounds = λ ready. walk_bounds m Y _ _ (c.walk_on.ensures ready.0);
+      between = λ ready. flat_row m self.x _ _ (c.walk_on.ensures ready.0);
     }

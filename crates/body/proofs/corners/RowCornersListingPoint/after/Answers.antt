@@ -7,6 +7,6 @@ returns g c =
     let self = c.args.self.now in
     let m = g.B.Body.meaning self.body.now in
     record {
-      bounds = λ ready. walk_bounds m Z _ _ (c.walk-on.ensures ready);
-      between = λ ready. flat_at m self.x self.y _ _ (c.walk-on.ensures ready);
+      bounds = λ ready. walk_bounds m Z _ _ (c.walk_on.ensures ready);
+      between = λ ready. flat_at m self.x self.y _ _ (c.walk_on.ensures ready);
     }

@@ -12,5 +12,5 @@ returns c =
     let x = c.args.cell.x in
     let y = c.args.cell.y in
     let z = c.args.cell.z in
-    let word = c.word-at-word.ensures ∙ ap₂ (λ (side width : ℕ). get_or c.args.self.now.words.now ((x * side + y) * width + z / 64) 0) c.side.ensures c.row-words.ensures.value in
-    bit_test c.word-at-word.result (z % 64) ∙ ap (λ (w : ℕ). bit w (z % 64)) word ∙ sym (packed_within _ _ x y z (sym c.if-not-holds.ensures))
+    let word = c.word_at-word.ensures ∙ ap₂ (λ (side width : ℕ). get_or c.args.self.now.words.now ((x * side + y) * width + z / 64) 0) c.side.ensures c.row_words.ensures.value in
+    bit_test c.word_at-word.result (z % 64) ∙ ap (λ (w : ℕ). bit w (z % 64)) word ∙ sym (packed_within _ _ x y z (sym c.if-not-holds.ensures))

@@ -12,5 +12,5 @@ returns g c viewed =
     let view = self.view.now in
     let m = g.B.Body.meaning view.body.now in
     let o = view.order in
-    c.write-all.ensures viewed
+    c.write_all.ensures viewed
     ∙ ap (λ l. write_on c.args.used l c.args.table.now) (listed_map (record_of o) (row_boxes (cells m o) (side_a m o) (side_b m o) (side_c m o) c.args.plane) (side_b m o) 0)

@@ -10,7 +10,7 @@ returns g c =
     let self = c.args.self.now in
     let view = self.view.now in
     let m = g.B.Body.meaning view.body.now in
-    let skip = skip_read m (axis_a view.order) _ c.args.i _ c.skip-at.ensures in
+    let skip = skip_read m (axis_a view.order) _ c.args.i _ c.skip_at.ensures in
     record {
       bounds = λ ready below. (skip ready.0 below).inside below;
       same = λ ready below n low high.

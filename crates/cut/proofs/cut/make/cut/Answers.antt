@@ -7,13 +7,13 @@ use Rattle.cut.proofs.cut.make.cut.Goals as goal
 pub returns-in-Some : goal.returns-in-Some
 returns-in-Some g c =
     record {
-      lawful = c.write-boxes.ensures.lawful;
-      outcome = (cut_outcome_is (g.B.Body.meaning c.args.body) c.args.order _ _ _ _ c.write-boxes.ensures.boxes (ap (λ u. ok_or u BoxesFull) (sym c.in-Some.is)), refl, refl);
+      lawful = c.write_boxes.ensures.lawful;
+      outcome = (cut_outcome_is (g.B.Body.meaning c.args.body) c.args.order _ _ _ _ c.write_boxes.ensures.boxes (ap (λ u. ok_or u BoxesFull) (sym c.in-Some.is)), refl, refl);
     }
 
 pub returns-in-None : goal.returns-in-None
 returns-in-None g c =
     record {
-      lawful = c.write-boxes.ensures.lawful;
-      outcome = (cut_outcome_is (g.B.Body.meaning c.args.body) c.args.order _ _ _ _ c.write-boxes.ensures.boxes (ap (λ u. ok_or u BoxesFull) (sym c.in-None.is)), refl);
+      lawful = c.write_boxes.ensures.lawful;
+      outcome = (cut_outcome_is (g.B.Body.meaning c.args.body) c.args.order _ _ _ _ c.write_boxes.ensures.boxes (ap (λ u. ok_or u BoxesFull) (sym c.in-None.is)), refl);
     }

@@ -5,9 +5,9 @@ use Rattle.job.proofs.reader.Reader.read_grid.Goals as goal
 pub returns : goal.returns
 returns c = record { later = search rules; says = inr (_, refl, inr (search rules)); none = tt }
 
-pub returns-in-err-count : goal.returns-in-err-count
-returns-in-err-count c = record {
+pub returns-in_err-count : goal.returns-in_err-count
+returns-in_err-count c = record {
   later = search rules;
   says = search rules;
-  none = refused_by _ c.from-residual.result c.from-residual.ensures.1 (λ _ _ _ _ _ l. c.in-err-count.ensures.none _ l.2 l.1);
+  none = refused_by _ c.from_residual.result c.from_residual.ensures.1 (λ _ _ _ _ _ l. c.in_err-count.ensures.none _ l.2 l.1);
 }

@@ -6,4 +6,4 @@ use Rattle.piles.specs.Piles.{piled}
 use Rattle.piles.proofs.pile.Pile.translate.Goals as goal
 
 pub returns : goal.returns
-returns c = ap (λ (x : Pile). translated (steps c.args.shift) (piled x)) c.in-ok-new.ensures.ok
+returns c = ap (λ (x : Pile). translated (steps c.args.shift) (piled x)) c.in_ok-new.ensures.ok

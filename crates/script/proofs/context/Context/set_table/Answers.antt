@@ -2,11 +2,11 @@ use Rattle.std.proofs.Common.{◌-◌, ◌++◌, take, replicate, vec_items, sym
 use Rattle.script.specs.Scripts.{State, blank, blanks, resized, state_of, with_boxes}
 use Rattle.script.proofs.context.Context.set_table.Goals as goal
 
-pub returns-in-ok-resize : goal.returns-in-ok-resize
+pub returns-in_ok-resize-in-Boxes : goal.returns-in_ok-resize-in-Boxes
 unfolding blanks
-returns-in-ok-resize c =
+returns-in_ok-resize-in-Boxes c =
     let s = state_of c.args.self.now in
     let boxes = vec_items c.args.self.now.boxes in
     let n = c.args.length in
-    ap (with_boxes s) (c.in-ok-resize.ensures.items ∙ ap₂ (λ k x. take n boxes ++ replicate (n - k) x) c.args.self.now.boxes.ok.0 c.blank-record-blank.ensures)
+    ap (with_boxes s) (c.in_ok-resize-in-Boxes.ensures.items ∙ ap₂ (λ k x. take n boxes ++ replicate (n - k) x) c.args.self.now.boxes.ok.0 c.blank_record-blank.ensures)
     ∙ ap (λ t. resized s t n) (sym c.in-Boxes.is)

@@ -5,4 +5,4 @@ use Rattle.script.proofs.context.Context.tell.Goals as goal
 
 pub returns : goal.returns
 returns c =
-    ap {B = State} (λ l. record { corners = c.args.self.now.corner_table; boxes = vec_items c.args.self.now.boxes; replies = l }) (ap (map reply_of) c.in-ok-push.ensures.items ∙ map_push reply_of (vec_items c.args.self.now.answers) c.args.answer)
+    ap {B = State} (λ l. record { corners = c.args.self.now.corner_table; boxes = vec_items c.args.self.now.boxes; replies = l }) (ap (map reply_of) c.in_ok-push.ensures.items ∙ map_push reply_of (vec_items c.args.self.now.answers) c.args.answer)
