@@ -1,12 +1,12 @@
 -- The skips of a ball are lawful.
-use Rattle.std.proofs.Common.{◌≡◌, ℕ, ◌+◌, ◌-◌, ◌*◌, ◌<◌, ◌≤◌, min, Bool, false, cond, leb, sym, refl, ap, ◌∙◌, ap₂, add-mul, mul-le-mul, mul-add, arith}
+use Rattle.std.proofs.Common.{◌≡◌, ℕ, ◌+◌, ◌-◌, ◌*◌, ◌<◌, ◌≤◌, min, false, cond, leb, sym, refl, ap, ◌∙◌, ap₂, add-mul, mul-le-mul, mul-add, arith}
 use Rattle.std.proofs.lemmas.Bool.{cond_both, cond-false, cond-true, le-ltb, lt-leb, lt-ltb, leb-false, ltb-true, ltb-false, leb-true}
 use Rattle.geometry.specs.declared.axis.Axis.{Axis}
 use Rattle.geometry.specs.declared.axis.Axis.TheVariants.{X, Y, Z}
 use Rattle.geometry.specs.declared.frame.Cell.{Cell}
 use Rattle.body.specs.Solids.{Skips, section}
 use Rattle.layers.proofs.Framing.{framed_skips}
-use Rattle.ball.specs.Balls.{ball_skip, ball_solid, centre_along, distance, in_ball, squared}
+use Rattle.ball.specs.Balls.{ball_skip, ball_solid, centre_along, distance, in_ball}
 
 square_less : (r d : ℕ) → r < d → r * r < d * d
 square_less r d h =

@@ -1,14 +1,13 @@
 -- Laws of corner lists: they determine the cells, and every line along an axis carries an even number.
-use Rattle.std.proofs.Common.{◌≡◌, ℕ, zero, suc, ◌+◌, ◌<◌, ◌≤◌, Bool, true, false, cond, ◌&&◌, eqb, ltb, leb, ◌⊎◌, List, sym, refl, ap, ◌∙◌, ap₂, ⊎_elim, add-one, arith}
+use Rattle.std.proofs.Common.{◌≡◌, ℕ, zero, suc, ◌+◌, ◌<◌, ◌≤◌, Bool, true, false, ◌&&◌, eqb, ltb, leb, List, sym, refl, ap, ◌∙◌, ap₂, ⊎_elim, add-one, arith}
 use mathlib.Core.Path.{fun_ext}
 use mathlib.Core.Bool.{and_assoc, and_comm, and-true}
 use Rattle.std.proofs.lemmas.Bool.{and_left, and_right, le-leb, lt-leb, le-ltb, eq-eqb, ne_eqb, cases_lt}
-use Rattle.geometry.specs.Frames.{in_frame}
 use Rattle.geometry.specs.declared.axis.Axis.{Axis}
 use Rattle.geometry.specs.declared.axis.Axis.TheVariants.{X, Y, Z}
 use Rattle.geometry.specs.declared.frame.Point.{Point}
 use Rattle.body.specs.Solids.{Inside, Solid, differ}
-use Rattle.body.specs.Corners.{Determines, EvenLines, at_or_below, changes, corner, corner_at, corner_list, on_line, parity, plane_corners, point, row_corners}
+use Rattle.body.specs.Corners.{Determines, EvenLines, changes, corner, corner_at, corner_list, on_line, parity, plane_corners, point, row_corners}
 use Rattle.body.proofs.Parity.{and_differ, changes_none, corner_changes}
 use Rattle.body.proofs.Sums.{odd_below, odd_below_and, odd_below_same, changes_add_up, parity_changes, parity_if, parity_listed}
 

@@ -1,11 +1,9 @@
 -- There are no corners in a plane whose section is as the one before.
-use Rattle.std.proofs.Common.{◌≡◌, ℕ, zero, suc, ◌+◌, ◌<◌, ◌≤◌, Bool, true, false, cond, ◌⊎◌, List, [], ◌∷◌, ◌++◌, sym, refl, ap, ◌∙◌, ⊎_elim, arith}
+use Rattle.std.proofs.Common.{◌≡◌, ℕ, zero, suc, ◌+◌, ◌<◌, ◌≤◌, Bool, false, cond, [], ◌∷◌, sym, ap, ◌∙◌, ⊎_elim, arith}
 use mathlib.Core.Path.{fun_ext}
 use Rattle.std.proofs.lemmas.Bool.{cases_lt}
 use Rattle.geometry.specs.declared.axis.Axis.{Axis}
 use Rattle.geometry.specs.declared.axis.Axis.TheVariants.{X, Y, Z}
-use Rattle.geometry.specs.declared.frame.Point.{Point}
-use Rattle.tables.specs.Tables.{listed}
 use Rattle.tables.proofs.Listed.{listed_empty}
 use Rattle.body.specs.Indexes.{Walks}
 use Rattle.body.specs.Solids.{Solid, Skips, section}

@@ -1,8 +1,8 @@
 -- Parities: exclusive or, changes along an axis, and odd counts.
-use Rattle.std.proofs.Common.{◌≡◌, ℕ, zero, suc, ◌+◌, Bool, true, false, cond, not, ◌&&◌, sym, refl, ap, ◌∙◌, ap₂, suc-add, zero-add}
+use Rattle.std.proofs.Common.{◌≡◌, ℕ, zero, suc, ◌+◌, Bool, true, false, not, ◌&&◌, sym, refl, ap, ◌∙◌, ap₂, suc-add, zero-add}
 use mathlib.Core.Path.{fun_ext}
 use Rattle.body.specs.Solids.{differ, one}
-use Rattle.body.specs.Corners.{around, changes, corner, meeting, odd}
+use Rattle.body.specs.Corners.{around, changes, corner, odd}
 
 pub differ_false : (a : Bool) → differ a false ≡ a
 differ_false true = refl

@@ -1,5 +1,5 @@
 -- The solids of the worked cases.
-use Rattle.std.specs.Prelude.{ℕ, ◌^◌, ◌&&◌, ◌||◌, [], ◌∷◌, ◌==◌}
+use Rattle.std.specs.Prelude.{◌^◌, ◌&&◌, ◌||◌, [], ◌∷◌, ◌==◌}
 use Rattle.geometry.specs.Frames.{sides_given}
 use Rattle.body.specs.Solids.{Solid}
 use Rattle.body.specs.Grids.{packed}

@@ -1,5 +1,5 @@
 -- From a cell to its run, and from a run to its plate.
-use Rattle.std.proofs.Common.{◌≡◌, ℕ, ◌<◌, ◌≤◌, Bool, true, false, cond, ◌&&◌, eqb, ltb, ◌⊎◌, List, [], ◌∷◌, map, sym, refl, ap, ◌∙◌, subst, ⊎_elim, arith}
+use Rattle.std.proofs.Common.{◌≡◌, ℕ, ◌<◌, ◌≤◌, Bool, true, false, cond, ltb, List, [], map, sym, refl, ap, ◌∙◌, subst, ⊎_elim, arith}
 use Rattle.std.proofs.lemmas.Bool.{and_from, and_parts, both_ways, cases_Bool, cases_lt, eq-eqb, ltb-true}
 use Rattle.geometry.specs.Frames.{in_frame}
 use Rattle.geometry.specs.declared.axis.Axis.TheVariants.{X, Y, Z}
@@ -7,7 +7,7 @@ use Rattle.geometry.specs.declared.axis.AxisOrder.{AxisOrder}
 use Rattle.geometry.specs.declared.axis.AxisOrder.TheVariants.{Xyz, Xzy, Yxz, Yzx, Zxy, Zyx}
 use Rattle.body.specs.Solids.{Inside, Solid}
 use Rattle.boxes.specs.Cuts.{box_at, box_of_plate, box_of_run}
-use Rattle.boxes.specs.Orders.{cells, is_plate, is_run, side_a, side_b, side_c}
+use Rattle.boxes.specs.Orders.{cells, is_run, side_a, side_b, side_c}
 use Rattle.boxes.specs.Records.{PlateAt, RunAt, plate_records, record_of, records_at, run_records}
 use Rattle.boxes.specs.Stretches.{opens, reach, stretch}
 use Rattle.boxes.specs.declared.record.BoxRecord.{BoxRecord}

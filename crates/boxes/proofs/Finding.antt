@@ -1,12 +1,11 @@
 -- A search finds a record exactly when some record passes.
-use Rattle.std.proofs.Common.{◌≡◌, ℕ, ◌+◌, Bool, true, false, cond, not, eqb, List, [], ◌∷◌, is_some, Some, count_by, Option, sym, refl, ap, ◌∙◌, zero-add, arith}
+use Rattle.std.proofs.Common.{◌≡◌, ℕ, ◌+◌, Bool, true, false, cond, not, eqb, List, [], ◌∷◌, is_some, Some, count_by, sym, refl, ap, ◌∙◌, zero-add, arith}
 use Rattle.std.proofs.lemmas.List.Sums.{sum_by-cons}
 use Rattle.std.proofs.lemmas.Bool.{ne_eqb}
 use Rattle.geometry.specs.declared.axis.AxisOrder.{AxisOrder}
-use Rattle.geometry.specs.declared.frame.Cell.{Cell}
 use Rattle.body.specs.Solids.{Solid}
 use Rattle.boxes.specs.Measures.{found, holding, least_from}
-use Rattle.boxes.specs.Laws.{Finds, SameSolid, boxed}
+use Rattle.boxes.specs.Laws.{Finds, SameSolid}
 use Rattle.boxes.specs.Records.{cut_list}
 use Rattle.boxes.specs.declared.record.BoxRecord.{BoxRecord}
 

@@ -2,10 +2,9 @@
 use Rattle.std.proofs.Common.{◌≡◌, ℕ, zero, suc, ◌<◌, ◌≤◌, Bool, true, false, cond, not, ◌&&◌, List, [], ◌∷◌, map, sym, refl, ap, ◌∙◌, arith}
 use mathlib.Core.Path.{fun_ext}
 use Rattle.geometry.specs.declared.axis.AxisOrder.{AxisOrder}
-use Rattle.tables.specs.Tables.{listed}
 use Rattle.tables.proofs.Listed.{listed_empty}
 use Rattle.body.specs.Solids.{Skips, Solid}
-use Rattle.boxes.specs.Cuts.{Bounds, box_at, box_end, box_of_plate, box_of_run, plate_end, row_boxes, run_end}
+use Rattle.boxes.specs.Cuts.{box_at, box_end, box_of_plate, box_of_run, plate_end, row_boxes, run_end}
 use Rattle.boxes.specs.Orders.{axis_a, axis_b, cells, is_plate, is_run, side_a, side_b, side_c}
 use Rattle.boxes.specs.Records.{plane_records, record_of, row_records}
 use Rattle.boxes.specs.Stretches.{opens, stretch}

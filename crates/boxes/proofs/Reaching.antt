@@ -1,10 +1,9 @@
 -- Longest stretches: what a walk along a line has to show of them.
-use Rattle.std.proofs.Common.{◌≡◌, ℕ, zero, suc, ◌+◌, ◌-◌, ◌<◌, ◌≤◌, Bool, true, false, cond, not, ◌&&◌, eqb, ◌⊎◌, sym, refl, ap, ◌∙◌, subst, ap₂, inl, inr, ⊎_elim, arith}
-use mathlib.Core.Bool.{and-true, and-false}
-use Rattle.std.proofs.lemmas.Bool.{and_from, and_left, and_parts, both_ways, cases_lt, eq-eqb, eqb-true, ne_eqb, not-true, not-false, not_from_false, not_from_true}
-use Rattle.body.specs.Grids.{first}
-use Rattle.body.proofs.GridSearch.{Found, found_first, found_once, search_found}
-use Rattle.boxes.specs.Stretches.{Longest, all_true, opens, reach, stretch}
+use Rattle.std.proofs.Common.{◌≡◌, ℕ, zero, suc, ◌+◌, ◌-◌, ◌<◌, ◌≤◌, Bool, true, false, not, ◌&&◌, eqb, sym, refl, ap, ◌∙◌, ⊎_elim, arith}
+use mathlib.Core.Bool.{and-false}
+use Rattle.std.proofs.lemmas.Bool.{and_from, and_left, and_parts, both_ways, cases_lt, eq-eqb, ne_eqb, not-true, not-false, not_from_false, not_from_true}
+use Rattle.body.proofs.GridSearch.{found_first, search_found}
+use Rattle.boxes.specs.Stretches.{all_true, opens, reach, stretch}
 
 -- where a stretch begins the test is true
 pub opens_here : (Q : ℕ → Bool) (i : ℕ) → opens Q i ≡ true → Q i ≡ true

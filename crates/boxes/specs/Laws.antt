@@ -1,13 +1,12 @@
 -- What the records of a cut are, in x, y and z.
-use Rattle.std.specs.Prelude.{◌≡◌, ℕ, ◌-◌, ◌*◌, ◌≤◌, true, not, List, is_some, sum_by, count_by, ◌==◌}
+use Rattle.std.specs.Prelude.{◌≡◌, ℕ, true, not, List, is_some, count_by, ◌==◌}
 use Rattle.geometry.specs.Cuboids.{in_box, lowers, uppers, within}
 use Rattle.geometry.specs.declared.axis.Axis.{Axis}
-use Rattle.geometry.specs.declared.axis.Axis.TheVariants.{X, Y, Z}
 use Rattle.geometry.specs.declared.axis.AxisOrder.{AxisOrder}
 use Rattle.geometry.specs.declared.frame.Cell.{Cell}
 use Rattle.geometry.specs.declared.cuboid.Cuboid.{Cuboid}
 use Rattle.body.specs.Corners.{All, corner_list}
-use Rattle.body.specs.Solids.{Small, Solid, one, solid_cells}
+use Rattle.body.specs.Solids.{Solid, one, solid_cells}
 use Rattle.boxes.specs.Measures.{found, holding, volume_of}
 use Rattle.boxes.specs.Cuts.{boxes}
 use Rattle.boxes.specs.Covers.{EachLongest, Rising}

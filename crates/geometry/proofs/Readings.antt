@@ -1,5 +1,5 @@
 -- What a constructor takes reads back as it was given.
-use Rattle.std.proofs.Common.{◌≡◌, ℕ, Bool, true, ◌&&◌, ltb, leb, ℤ, sym, arith, w16, w64, SFits, to_z, of_z, rules}
+use Rattle.std.proofs.Common.{◌≡◌, ℕ, true, ltb, leb, ℤ, sym, arith, w16, w64, SFits, to_z, of_z, rules}
 use Rattle.std.proofs.lemmas.Bool.{and_parts, ltb-true, leb-true}
 use Rattle.std.proofs.lemmas.Int.{ints, to_z-of_z}
 use Rattle.geometry.specs.Cuboids.{range_ok, lower_of, upper_of}

@@ -1,7 +1,6 @@
 -- What lines say, a line at a time.
-use Rattle.std.proofs.Common.{◌≡◌, ℕ, suc, ◌+◌, ◌<◌, ◌≤◌, Bool, true, false, cond, List, [], ◌∷◌, ◌++◌, length, get_or, take, drop, IfSome, IfNone, Some, None, Ok, Err, Option, Result, sym, refl, ap, ◌∙◌, subst, add-zero, arith, below_more}
+use Rattle.std.proofs.Common.{◌≡◌, ℕ, ◌+◌, ◌<◌, Bool, List, [], ◌∷◌, ◌++◌, length, get_or, take, drop, IfSome, IfNone, Some, None, Option, Result, sym, ap, ◌∙◌, subst, add-zero, arith, below_more}
 use Rattle.std.proofs.lemmas.List.{append_assoc, append-nil, drop-drop, get_or_append_left, get_or-drop, get_or_push, flat_map_more, length-drop, length_push, take_more}
-use Rattle.std.proofs.lemmas.Bool.{cond-true, cond-false}
 use Rattle.std.specs.List.{flat_map}
 use Rattle.std.specs.Option.{option_map}
 use Rattle.std.specs.Result.{result_ok}

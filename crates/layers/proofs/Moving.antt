@@ -1,5 +1,5 @@
 -- Translations: their sections and their skips.
-use Rattle.std.proofs.Common.{◌≡◌, ℕ, suc, ◌+◌, ◌-◌, ◌<◌, ◌≤◌, min, Bool, true, false, ◌&&◌, leb, ◌⊎◌, ℤ, pos, negsuc, sym, refl, ap, ◌∙◌, subst, ap₂, inl, inr, ⊎_elim, arith}
+use Rattle.std.proofs.Common.{◌≡◌, ℕ, suc, ◌+◌, ◌-◌, ◌<◌, ◌≤◌, min, Bool, ◌&&◌, ◌⊎◌, ℤ, pos, negsuc, sym, ap, ◌∙◌, subst, ap₂, inl, inr, ⊎_elim, arith}
 use mathlib.Core.Path.{fun_ext}
 use Rattle.std.proofs.lemmas.Bool.{cases_lt, cond-true, cond-false, le-leb, lt-leb, le-ltb, lt-ltb}
 use Rattle.geometry.specs.declared.axis.Axis.{Axis}
@@ -7,7 +7,7 @@ use Rattle.geometry.specs.declared.axis.Axis.TheVariants.{X, Y, Z}
 use Rattle.body.specs.Solids.{Inside, Skips, Solid, section}
 use Rattle.layers.specs.declared.moves.Source.{Source}
 use Rattle.layers.specs.declared.moves.Source.TheVariants.{Here, Beneath}
-use Rattle.layers.specs.Layers.{cell_less, framed, less, moved_source, of_source, plane_more, source_of, translated, translated_skip}
+use Rattle.layers.specs.Layers.{cell_less, less, moved_source, of_source, plane_more, source_of, translated, translated_skip}
 use Rattle.layers.proofs.Framing.{Good, framed_skips, section_outside}
 
 -- n and p less a step are both below 0, or are numbers that S relates

@@ -1,5 +1,5 @@
 -- The laws of layers.
-use Rattle.std.proofs.Common.{◌≡◌, ℕ, zero, suc, ◌+◌, ◌-◌, ◌<◌, ◌≤◌, Bool, true, false, not, ◌&&◌, ◌||◌, leb, ◌⊎◌, ℤ, pos, negsuc, neg_ℤ, Some, sym, refl, ap, ◌∙◌, ap₂, inl, inr, ⊎_elim, arith}
+use Rattle.std.proofs.Common.{◌≡◌, ℕ, zero, suc, ◌+◌, ◌-◌, ◌<◌, ◌≤◌, Bool, true, false, not, ◌&&◌, ◌||◌, leb, ◌⊎◌, ℤ, pos, negsuc, neg_ℤ, Some, sym, refl, ap, ◌∙◌, ap₂, ⊎_elim, arith}
 use mathlib.Core.Path.{fun_ext}
 use Rattle.std.proofs.lemmas.Bool.{and_from, and_parts, both_ways, cases_Bool, cond-true, le-leb, lt-ltb, cases_lt, lt-leb, eqb-true, not-true, not_from_false, or_cases, or_left, or_right}
 use Rattle.geometry.proofs.ByAxis.{by_axis}
@@ -7,9 +7,9 @@ use Rattle.geometry.specs.Frames.{in_frame}
 use Rattle.geometry.specs.declared.axis.Axis.{Axis}
 use Rattle.geometry.specs.declared.axis.Axis.TheVariants.{X, Y, Z}
 use Rattle.body.specs.Solids.{Inside, Solid, differ, one, solid_cells, total}
-use Rattle.layers.specs.declared.join.Join.TheVariants.{Union, Intersection, Difference, SymmetricDifference}
-use Rattle.layers.specs.Layers.{cell_less, complement, framed, joined, less, translated}
-use Rattle.layers.specs.Laws.{Has, Iff, LawfulLayers, Stays, opposite, same_sides, volumes_of}
+use Rattle.layers.specs.declared.join.Join.TheVariants.{Union, Intersection}
+use Rattle.layers.specs.Layers.{cell_less, joined, less}
+use Rattle.layers.specs.Laws.{Iff, LawfulLayers, opposite, same_sides, volumes_of}
 
 -- One cell: b says whether it lies in the frame, x and y whether the solids have it.
 twice_cell : (b x : Bool) → (b ≡ false → x ≡ false) → (b && not (b && not x)) ≡ x

@@ -1,5 +1,5 @@
 -- A pile's skips, from those of the solid that its outermost layer makes.
-use Rattle.std.proofs.Common.{◌≡◌, ℕ, sym, ap, ◌∙◌, subst}
+use Rattle.std.proofs.Common.{◌≡◌, ℕ, sym, subst}
 use Rattle.geometry.specs.declared.axis.Axis.{Axis}
 use Rattle.body.specs.Solids.{Solid}
 use Rattle.layers.proofs.Framing.{Good}

@@ -1,5 +1,5 @@
 -- Cells that are too far out for any box.
-use Rattle.std.proofs.Common.{◌≡◌, ℕ, ◌<◌, ◌≤◌, min, Bool, true, false, ◌&&◌, ltb, leb, List, Ok, sym, refl, ap, ◌∙◌, ap₂, inl, inr, arith}
+use Rattle.std.proofs.Common.{◌≡◌, ℕ, ◌≤◌, min, Bool, ◌&&◌, List, Ok, sym, ap, ◌∙◌, ap₂, inl, inr, arith}
 use Rattle.std.proofs.lemmas.Bool.{cases_lt, le-leb, le-ltb}
 use Rattle.geometry.specs.Cuboids.{in_box, lowers, uppers, within}
 use Rattle.geometry.specs.declared.axis.Axis.{Axis}

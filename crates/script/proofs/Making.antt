@@ -1,5 +1,5 @@
 -- What a constructor made, if it did not refuse.
-use Rattle.std.proofs.Common.{◌≡◌, Bool, true, false, cond, Some, None, Ok, Err, Result, sym, ap, ◌∙◌}
+use Rattle.std.proofs.Common.{◌≡◌, Bool, cond, Some, None, Ok, Err, Result, sym, ap, ◌∙◌}
 use Rattle.std.specs.Option.{option_map}
 use Rattle.std.specs.Result.{result_ok}
 use Rattle.geometry.specs.Refusals.{Answers}

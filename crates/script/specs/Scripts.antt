@@ -1,6 +1,6 @@
 -- What a script of calls does and answers.
-use Rattle.std.specs.Prelude.{◌≡◌, ℕ, ◌+◌, ◌-◌, min, Bool, true, false, cond, List, [], ◌∷◌, ◌++◌, map, length, take, replicate, is_some, Some, None, Ok, Err, vec_items, Option, Result, nat_le}
-use Rattle.std.specs.Option.{option_map, option_to_list}
+use Rattle.std.specs.Prelude.{ℕ, ◌+◌, ◌-◌, min, Bool, true, false, cond, List, [], ◌∷◌, ◌++◌, map, length, take, replicate, is_some, Some, None, Ok, Err, vec_items, Option, Result, nat_le}
+use Rattle.std.specs.Option.{option_map}
 use Rattle.geometry.specs.Cuboids.{in_box}
 use Rattle.geometry.specs.Frames.{sides, sides_given, sides_ok}
 use Rattle.geometry.specs.declared.axis.Axis.{Axis}

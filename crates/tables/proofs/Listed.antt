@@ -1,5 +1,5 @@
 -- Lists that come in parts: parts that are empty can be passed over.
-use Rattle.std.proofs.Common.{◌≡◌, ℕ, zero, suc, ◌+◌, ◌-◌, ◌<◌, ◌≤◌, List, [], ◌∷◌, ◌++◌, map, sym, refl, ap, ◌∙◌, add-zero, add-suc, suc-add, arith}
+use Rattle.std.proofs.Common.{◌≡◌, ℕ, zero, suc, ◌+◌, ◌-◌, ◌<◌, ◌≤◌, List, [], ◌++◌, map, sym, refl, ap, ◌∙◌, add-zero, suc-add, arith}
 use Rattle.std.proofs.lemmas.List.{map-append}
 use Rattle.tables.specs.Tables.{listed}
 

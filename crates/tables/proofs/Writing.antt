@@ -1,5 +1,5 @@
 -- Writing a list into a table: one entry, one list after another, and all of it from the front.
-use Rattle.std.proofs.Common.{◌≡◌, ℕ, zero, suc, ◌+◌, ◌-◌, ◌<◌, ◌≤◌, Bool, true, false, cond, ltb, leb, List, [], ◌∷◌, ◌++◌, length, take, drop, set, Some, None, Ok, Err, Option, sym, refl, ap, ◌∙◌, append_assoc, add-zero, zero-add, arith, length-append, take-append-drop, length-take}
+use Rattle.std.proofs.Common.{◌≡◌, ℕ, zero, suc, ◌+◌, ◌<◌, ◌≤◌, Bool, true, false, cond, ltb, leb, List, [], ◌∷◌, ◌++◌, length, take, drop, set, Some, None, Ok, Err, Option, sym, refl, ap, ◌∙◌, append_assoc, add-zero, zero-add, arith, length-append, take-append-drop, length-take}
 use lib.Dec.{leb-zero, leb-suc-zero, leb-suc-suc}
 use lib.Seq.{set_at}
 use Rattle.std.proofs.lemmas.List.{length_push}

@@ -1,5 +1,5 @@
 -- Lists that are made part by part, and tables that take a list at their front.
-use Rattle.std.specs.Prelude.{ℕ, zero, suc, ◌+◌, min, Bool, true, false, cond, List, [], ◌∷◌, ◌++◌, length, take, Some, None, Option, nat_le, nat_lt, slice_set}
+use Rattle.std.specs.Prelude.{ℕ, zero, suc, ◌+◌, min, cond, List, [], ◌∷◌, ◌++◌, length, take, Some, None, Option, nat_le, nat_lt, slice_set}
 
 -- the lists f i, f (i + 1), .., k of them, one after the other
 unfoldable pub listed : {A : Type 0} → (ℕ → List A) → ℕ → ℕ → List A

@@ -1,5 +1,5 @@
 -- The packing of a scan means what the scan means.
-use Rattle.std.proofs.Common.{◌≡◌, ℕ, ◌+◌, ◌-◌, ◌*◌, ◌/◌, ◌%◌, ◌<◌, ◌≤◌, min, Bool, true, false, ◌&&◌, ltb, List, get_or, take, drop, sym, refl, ap, ◌∙◌, arith, below_more}
+use Rattle.std.proofs.Common.{◌≡◌, ℕ, ◌+◌, ◌-◌, ◌*◌, ◌/◌, ◌%◌, ◌<◌, ◌≤◌, min, Bool, true, false, ◌&&◌, List, get_or, take, drop, sym, refl, ap, ◌∙◌, arith, below_more}
 use mathlib.Core.Path.{fun_ext}
 use Rattle.std.proofs.lemmas.Nat.{div-mul-add, mod-mul-add, mul-add-lt, mul-le}
 use Rattle.std.proofs.lemmas.List.{get_or-take, get_or-drop}
@@ -8,7 +8,6 @@ use Rattle.geometry.specs.Frames.{in_frame}
 use Rattle.geometry.specs.declared.axis.Axis.{Axis}
 use Rattle.geometry.specs.declared.axis.Axis.TheVariants.{X, Y, Z}
 use Rattle.body.specs.Grids.{bit, packed, row_words, word_index, words_needed}
-use Rattle.body.specs.Solids.{Solid}
 use Rattle.text.specs.Scans.{packed_word, scanned, word_of}
 use Rattle.text.proofs.Scanning.{bit_word}
 

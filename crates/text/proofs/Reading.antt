@@ -1,8 +1,8 @@
 -- Numbers, words and lines, a piece at a time.
-use Rattle.std.proofs.Common.{◌≡◌, ℕ, zero, suc, ◌+◌, ◌<◌, ◌≤◌, Bool, true, false, cond, ◌&&◌, eqb, List, [], ◌∷◌, ◌++◌, length, get_or, take, drop, Some, None, Option, sym, refl, ap, ◌∙◌, add-zero, arith}
+use Rattle.std.proofs.Common.{◌≡◌, ℕ, zero, suc, ◌+◌, ◌<◌, ◌≤◌, Bool, true, false, cond, ◌&&◌, eqb, List, [], ◌∷◌, ◌++◌, length, get_or, take, drop, Some, Option, sym, refl, ap, ◌∙◌, add-zero, arith}
 use Rattle.std.proofs.lemmas.List.{at_drop_more, at_drop_all, drop-drop, get_or-drop, length-drop, take_all}
 use Rattle.std.proofs.lemmas.Bool.{cond-true, cond-false, and_right, both_ways, eq-eqb, ne_eqb}
-use Rattle.text.specs.Texts.{blank, chomped, digit_on, ends_word, feeds, lines_of, number_of, number_on, onto, words_of}
+use Rattle.text.specs.Texts.{blank, chomped, digit_on, ends_word, lines_of, number_of, number_on, onto, words_of}
 
 pub number_of_some : (word : List ℕ) → 0 < length word → number_of word ≡ number_on (Some 0) word
 number_of_some [] h = absurd (omega arith)

@@ -2,7 +2,7 @@
 use Rattle.std.specs.Prelude.{◌≡◌, ℕ, ◌+◌, ◌-◌, ◌*◌, ◌/◌, ◌%◌, ◌<◌, min, Bool, true, false, ◌&&◌, ◌||◌, List, [], ◌∷◌, map, length, take, drop, ◌==◌, slice_index, slice_index_or}
 use Rattle.geometry.specs.Frames.{in_frame}
 use Rattle.geometry.specs.declared.axis.Axis.{Axis}
-use Rattle.geometry.specs.declared.axis.Axis.TheVariants.{X, Y, Z}
+use Rattle.geometry.specs.declared.axis.Axis.TheVariants.{Y, Z}
 use Rattle.body.specs.Grids.{row_words}
 use Rattle.body.specs.Solids.{Solid, one}
 

@@ -1,4 +1,4 @@
-use Rattle.std.proofs.Common.{◌≡◌, suc, ◌+◌, ◌<◌, ◌≤◌, length, set, sym, ap, ◌∙◌, subst, arith, length-set}
+use Rattle.std.proofs.Common.{◌≡◌, ◌+◌, ◌<◌, sym, ap, ◌∙◌, subst, arith, length-set}
 use Rattle.geometry.proofs.Bounds.{sides_bound}
 use Rattle.body.specs.Solids.{Solid, Skips}
 use Rattle.body.proofs.Skipping.{skips_later, indexed_more}

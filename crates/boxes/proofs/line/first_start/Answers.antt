@@ -1,4 +1,4 @@
-use Rattle.std.proofs.Common.{◌≡◌, ℕ, ◌<◌, not, sym, ap, ◌∙◌, arith}
+use Rattle.std.proofs.Common.{◌<◌, not, sym, ap, ◌∙◌, arith}
 use Rattle.boxes.proofs.Reaching.{reach_is}
 use Rattle.boxes.proofs.line.first_start.Goals as goal
 

@@ -1,5 +1,4 @@
-use Rattle.std.proofs.Common.{◌≡◌, ◌<◌, true, false, sym, ◌∙◌, arith}
-use Rattle.boxes.specs.Stretches.{opens}
+use Rattle.std.proofs.Common.{◌≡◌, ◌<◌, false, sym, ◌∙◌, arith}
 use Rattle.boxes.proofs.Reaching.{opens_here, stretch_covered, stretch_past}
 use Rattle.boxes.proofs.line.is_stretch.Goals as goal
 use Rattle.boxes.proofs.line.is_stretch.Goals.{else-high-size-via-then-high-size+else-at, else-high-size-via-else-high-size}

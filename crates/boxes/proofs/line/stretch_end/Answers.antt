@@ -1,5 +1,5 @@
-use Rattle.std.proofs.Common.{◌≡◌, ℕ, ◌<◌, ◌≤◌, sym, ap, ◌∙◌, subst, arith}
-use Rattle.boxes.proofs.Reaching.{Reaches, reach_is}
+use Rattle.std.proofs.Common.{◌<◌, sym, ◌∙◌, arith}
+use Rattle.boxes.proofs.Reaching.{reach_is}
 use Rattle.boxes.proofs.line.stretch_end.Goals as goal
 
 pub returns-then-not-at : goal.returns-then-not-at

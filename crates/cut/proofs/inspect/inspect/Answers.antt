@@ -1,5 +1,4 @@
-use Rattle.std.proofs.Common.{◌≡◌, Ok, sym, refl, ap, ◌∙◌, subst}
-use Rattle.cut.specs.Inspections.{inspected}
+use Rattle.std.proofs.Common.{Ok, refl, ap, ◌∙◌}
 use Rattle.cut.proofs.Inspecting.{inspected_is, inspected_not, never_refused}
 use Rattle.cut.proofs.inspect.inspect.Goals as goal
 

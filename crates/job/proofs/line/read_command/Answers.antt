@@ -2,8 +2,6 @@ use Rattle.std.proofs.Common.{sym, subst, rules}
 use Rattle.text.specs.Texts.{words_of}
 use Rattle.script.specs.declared.call.Call.{Call}
 use Rattle.job.specs.Jobs.{SaysAlone}
-use Rattle.job.specs.declared.line.Command.{Command}
-use Rattle.job.specs.declared.line.Command.TheVariants as commands
 use Rattle.job.proofs.Refusing.{refused_by}
 use Rattle.job.proofs.line.read_command.Goals as goal
 

@@ -1,4 +1,4 @@
-use Rattle.std.proofs.Common.{◌≡◌, ℕ, ◌<◌, ◌≤◌, [], length, get_or, take, drop, vec_items}
+use Rattle.std.proofs.Common.{◌≡◌, take, drop, vec_items}
 use Rattle.std.specs.List.{flat_map}
 use Rattle.job.specs.Jobs.{Later, Rows, left}
 use Rattle.text.specs.Scans.{row_cells}

@@ -1,4 +1,4 @@
-use Rattle.std.proofs.Common.{◌≡◌, sym, ◌∙◌, arith, rules}
+use Rattle.std.proofs.Common.{sym, ◌∙◌, arith, rules}
 use Rattle.job.specs.Jobs.{left}
 use Rattle.job.proofs.Refusing.{number_good, only_fits, refused_by, too_few}
 use Rattle.job.proofs.Saying.{later_later, left_more, numbers_more}

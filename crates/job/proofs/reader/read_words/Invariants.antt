@@ -1,4 +1,4 @@
-use Rattle.std.proofs.Common.{◌≡◌, ℕ, ◌<◌, ◌≤◌, [], length, get_or, take, drop, vec_items, vec_len}
+use Rattle.std.proofs.Common.{◌≡◌, drop, vec_items, vec_len}
 use Rattle.job.specs.Jobs.{Later, Numbers, left}
 use Rattle.job.proofs.reader.read_words.Given as goal
 

@@ -1,4 +1,4 @@
-use Rattle.std.proofs.Common.{◌≡◌, ℕ, ◌<◌, ◌≤◌, get_or, ap, ◌∙◌, arith}
+use Rattle.std.proofs.Common.{◌≡◌, ◌<◌, get_or, ap, ◌∙◌, arith}
 use Rattle.geometry.specs.declared.axis.Axis.TheVariants.{X}
 use Rattle.body.specs.Solids.{Solid, total}
 use Rattle.layers.specs.Counts.{plane_cells}

@@ -1,4 +1,4 @@
-use Rattle.std.proofs.Common.{◌≡◌, ℕ, ◌<◌, ◌≤◌, get_or, ap, ◌∙◌, arith}
+use Rattle.std.proofs.Common.{◌≡◌, ◌<◌, get_or, ap, ◌∙◌, arith}
 use mir.Val.{bool_byte}
 use Rattle.geometry.specs.declared.axis.Axis.TheVariants.{Z}
 use Rattle.body.specs.Solids.{Solid, one, total}

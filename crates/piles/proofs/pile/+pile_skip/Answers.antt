@@ -1,7 +1,6 @@
 use Rattle.std.proofs.Common.{◌≡◌, ℕ, sym, ap, ◌∙◌, ap₂}
 use Rattle.geometry.specs.Shifts.{steps}
 use Rattle.geometry.specs.declared.axis.Axis.{Axis}
-use Rattle.body.specs.Solids.{Solid}
 use Rattle.layers.specs.Layers.{complement, joined, joined_skip, translated, translated_skip}
 use Rattle.layers.proofs.Framing.{complement_good, joined_both, joined_first}
 use Rattle.layers.proofs.Moving.{translated_beneath, translated_here}

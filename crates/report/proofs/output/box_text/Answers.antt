@@ -1,4 +1,4 @@
-use Rattle.std.proofs.Common.{◌≡◌, ◌++◌, string_bytes, codes, decimal, ap, ◌∙◌}
+use Rattle.std.proofs.Common.{◌≡◌, ◌++◌, string_bytes, codes, decimal, ◌∙◌}
 use Rattle.body.specs.Corners.{point}
 use Rattle.report.specs.Outputs.{point_text}
 use Rattle.report.proofs.output.box_text.Goals as goal

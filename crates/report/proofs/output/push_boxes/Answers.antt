@@ -1,6 +1,4 @@
-use Rattle.std.proofs.Common.{◌+◌, ◌++◌, string_bytes, ap, ◌∙◌}
-use Rattle.cut.specs.Asks.{numbered}
-use Rattle.report.specs.Outputs.{box_line, box_lines}
+use Rattle.std.proofs.Common.{string_bytes, ◌∙◌}
 use Rattle.report.proofs.Printing.{boxes_all, boxes_more}
 use Rattle.report.proofs.output.push_boxes.Goals as goal
 

@@ -1,6 +1,6 @@
-use Rattle.std.proofs.Common.{◌≡◌, false, [], ◌∷◌, sym, refl, ap, ◌∙◌, arith}
+use Rattle.std.proofs.Common.{[], ◌∷◌, sym, refl, ap, ◌∙◌, arith}
 use Rattle.std.proofs.lemmas.Bool.{both_ways}
-use Rattle.script.specs.Scripts.{cut_step, ends, free, state_of, step, world}
+use Rattle.script.specs.Scripts.{ends, free, state_of, step, world}
 use Rattle.script.proofs.Running.{ends_first, runs_more}
 use Rattle.script.proofs.block.block_step.Goals as goal
 

@@ -1,4 +1,4 @@
-use Rattle.std.proofs.Common.{◌≡◌, suc, ◌+◌, ◌-◌, ◌<◌, ◌≤◌, List, ◌++◌, sym, ap, ◌∙◌, subst, arith}
+use Rattle.std.proofs.Common.{◌≡◌, suc, ◌-◌, ◌<◌, ◌≤◌, sym, ap, ◌∙◌, arith}
 use Rattle.tables.specs.Tables.{listed, write_on}
 use Rattle.tables.proofs.Listed.{listed_none, listed_jump}
 use Rattle.tables.proofs.Writing.{write_none, write_stopped, write_went_on}

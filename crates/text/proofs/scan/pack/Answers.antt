@@ -1,6 +1,5 @@
 use Rattle.std.proofs.Common.{◌≡◌, ◌≤◌, refl, ap, ◌∙◌, arith}
 use Rattle.geometry.specs.Frames.{sides}
-use Rattle.geometry.specs.declared.axis.Axis.TheVariants.{X, Y, Z}
 use Rattle.body.specs.Grids.{words_needed}
 use Rattle.text.specs.Scans.{packed_word}
 use Rattle.text.proofs.Packing.{follows_more, packed_scan, words_counted, words_few}

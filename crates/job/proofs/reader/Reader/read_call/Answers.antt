@@ -1,4 +1,4 @@
-use Rattle.std.proofs.Common.{◌∷◌, Some, sym, ap, ◌∙◌, subst, rules}
+use Rattle.std.proofs.Common.{◌∷◌, sym, ap, ◌∙◌, subst, rules}
 use Rattle.text.specs.Problems.{Fault}
 use Rattle.text.specs.Texts.{words_of}
 use Rattle.job.specs.Jobs.{Says, force, keyword_word, left}

@@ -1,4 +1,4 @@
-use Rattle.std.proofs.Common.{refl, inl, inr, rules}
+use Rattle.std.proofs.Common.{refl, inr, rules}
 use Rattle.job.proofs.Refusing.{refused_by}
 use Rattle.job.proofs.reader.Reader.read_grid.Goals as goal
 

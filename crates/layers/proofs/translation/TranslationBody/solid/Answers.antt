@@ -1,4 +1,4 @@
-use Rattle.std.proofs.Common.{◌≡◌, ℕ, Bool, ◌&&◌, sym, ap, ◌∙◌}
+use Rattle.std.proofs.Common.{◌&&◌, sym, ap, ◌∙◌}
 use Rattle.geometry.specs.Frames.{in_frame}
 use Rattle.geometry.specs.Shifts.{steps}
 use Rattle.body.specs.Solids.{Solid}

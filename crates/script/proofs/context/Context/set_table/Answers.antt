@@ -1,5 +1,5 @@
 use Rattle.std.proofs.Common.{◌-◌, ◌++◌, take, replicate, vec_items, sym, ap, ◌∙◌, ap₂}
-use Rattle.script.specs.Scripts.{State, blank, blanks, resized, state_of, with_boxes}
+use Rattle.script.specs.Scripts.{blanks, resized, state_of, with_boxes}
 use Rattle.script.proofs.context.Context.set_table.Goals as goal
 
 pub returns-in_ok-resize-in-Boxes : goal.returns-in_ok-resize-in-Boxes
