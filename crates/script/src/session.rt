@@ -1,9 +1,10 @@
 // The run of a whole script.
-ghost use Rattle.std.specs.Prelude.{◌≡◌, ◌+◌, ◌<◌, ◌≤◌, false, [], ◌∷◌, map, length, drop, is_some, IfOk, OnOk};
+ghost use Rattle.std.specs.Prelude.{◌≡◌, ◌+◌, ◌<◌, ◌≤◌, false, List, [], ◌∷◌, map, length, drop, is_some, IfOk, OnOk};
 ghost use Rattle.body.specs.Solids.{Inside, Small, Solid, one};
 ghost use Rattle.boxes.specs.Laws.{LawfulCut};
 ghost use Rattle.geometry.specs.Frames.{sides};
 ghost use Rattle.geometry.specs.declared.axis.AxisOrder.{AxisOrder};
+ghost use Rattle.script.specs.Plain.{PlainCall, blocks_read, call_of, replies, start, steps};
 ghost use Rattle.script.specs.Scripts.{Home, block_of, ends, frame_reply, grid_of, grid_reply, held_of, home_of, made_held, made_home, made_reply, new_frame, new_grid, nothing, ran, reply_of, runs, size_of, state_of, step, world};
 ghost use Rattle.std.specs.Option.{option_map};
 
@@ -187,12 +188,15 @@ fn block_size(block: Option<PackedGrid<'_>>) -> Option<BlockSize>
     })
 }
 
-// Makes the calls of a script one after the other.
+// Makes the calls of a script one after the other. A plain script does what is said of plain scripts.
 pub fn run(heap: Global, calls: &[Call]) -> Result<Report, AllocError>
     ensures answers { IfOk result (λ p. map reply_of p.answers.items ≡ (ran calls.now).state.replies) }
     ensures blocks { IfOk result (λ p. p.blocks ≡ (ran calls.now).home.blocks) }
     ensures last { IfOk result (λ p. p.last ≡ option_map size_of (block_of (ran calls.now).held)) }
     ensures lawful { (m : Solid) → Inside m → Small m → (o : AxisOrder) → LawfulCut m o }
+    ensures plain_answers { (cs : List PlainCall) → calls.now ≡ map call_of cs → IfOk result (λ p. map reply_of p.answers.items ≡ replies start cs) }
+    ensures plain_blocks { (cs : List PlainCall) → calls.now ≡ map call_of cs → IfOk result (λ p. p.blocks ≡ blocks_read start cs) }
+    ensures plain_last { (cs : List PlainCall) → calls.now ≡ map call_of cs → IfOk result (λ p. p.last ≡ option_map size_of (steps start cs).block) }
 {
     let mut context = Context::new(heap)?;
     let mut session = Session {
