@@ -4,14 +4,14 @@ JOB ?= examples/foam.job
 .PHONY: run test bench
 
 run:
-	@rt check jellyalloy >target-check.log 2>&1 || { tail -n 20 target-check.log; exit 1; }
+	@cd crates/jellyalloy && rt run </dev/null >../../target-check.log 2>&1 || { tail -n 20 ../../target-check.log; exit 1; }
 	@rm -f target-check.log
-	@target/bin/jellyalloy <$(JOB)
+	@crates/jellyalloy/out/jellyalloy <$(JOB)
 
 test:
 	@.ci/run
 
 bench:
-	@rt staticlib exports >target-bench.log 2>&1 || { tail -n 20 target-bench.log; exit 1; }
+	@cd crates/exports && rt lib >../../target-bench.log 2>&1 || { tail -n 20 ../../target-bench.log; exit 1; }
 	@rm -f target-bench.log
 	@cargo run --release --offline --quiet --manifest-path bench/Cargo.toml
