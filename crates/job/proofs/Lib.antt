@@ -1,2 +1,3 @@
+pub mod Plainly
 pub mod Refusing
 pub mod Saying

@@ -138,11 +138,11 @@ keyword_of (keywords.Alone commands.Find) = refl
 keyword_of (keywords.Alone commands.Neighbour) = refl
 keyword_of (keywords.Alone commands.Reopen) = refl
 
-spelled_once : (k k' : Keyword) → keyword_word k ≡ keyword_word k' → k ≡ k'
+pub spelled_once : (k k' : Keyword) → keyword_word k ≡ keyword_word k' → k ≡ k'
 spelled_once k k' e = sym (keyword_of k) ∙ ap (λ w. keyword (mark w)) e ∙ keyword_of k'
 
 -- what is said is said by a line that begins with a keyword
-says_line : (s : Option (Axis → ℕ)) (words lines : List (List ℕ)) (c : Call) (s' : Option (Axis → ℕ)) (lines' : List (List ℕ)) → Says s words lines c s' lines' → (k : Keyword) × (a : List (List ℕ)) × (words ≡ keyword_word k ∷ a) × Line k s a lines s' lines'
+pub says_line : (s : Option (Axis → ℕ)) (words lines : List (List ℕ)) (c : Call) (s' : Option (Axis → ℕ)) (lines' : List (List ℕ)) → Says s words lines c s' lines' → (k : Keyword) × (a : List (List ℕ)) × (words ≡ keyword_word k ∷ a) × Line k s a lines s' lines'
 says_line s words lines c s' lines' (inl l) = (keywords.Alone l.0, l.1, l.2, (c, l.3, l.4, l.5))
 says_line s words lines c s' lines' (inr (v, is, inl l)) = (keywords.Scan, [], l.0, (l.1.0, refl, l.1.1, l.1.2, l.2, l.1.5))
 says_line s words lines c s' lines' (inr (v, is, inr l)) = (keywords.Grid, l.0.0, l.0.1, (vec_items v, l.0.2, l.0.3, l.1, l.2, l.3, l.4))
@@ -163,7 +163,7 @@ frame_same commands.Neighbour s words c d p q = ap (frame_after s) p.6 ∙ ap (f
 frame_same commands.Reopen s words c d p q = ap (frame_after s) p.1 ∙ ap (frame_after s) (sym q.1)
 
 -- a line leaves one state only
-line_same : (k : Keyword) (s : Option (Axis → ℕ)) (words lines : List (List ℕ)) (s1 s2 : Option (Axis → ℕ)) (l1 l2 : List (List ℕ)) → Line k s words lines s1 l1 → Line k s words lines s2 l2 → (s1 ≡ s2) × (l1 ≡ l2)
+pub line_same : (k : Keyword) (s : Option (Axis → ℕ)) (words lines : List (List ℕ)) (s1 s2 : Option (Axis → ℕ)) (l1 l2 : List (List ℕ)) → Line k s words lines s1 l1 → Line k s words lines s2 l2 → (s1 ≡ s2) × (l1 ≡ l2)
 line_same keywords.Scan s words lines s1 s2 l1 l2 p q =
     let e : Some p.0 ≡ Some q.0 = sym p.2 ∙ q.2 in
     let same : p.0 ≡ q.0 = cc in

@@ -1,8 +1,10 @@
 // Reading a job: its text into calls.
-ghost use Rattle.std.specs.Prelude.{◌≡◌, ℕ, ◌+◌, ◌≤◌, List, [], ◌∷◌, length, take, drop, IfSome, IfNone, IfOk, IfErr, None as Absent, vec_len, codes, Option, OnErr, OnOk};
+ghost use Rattle.std.specs.Prelude.{◌≡◌, ℕ, ◌+◌, ◌≤◌, List, [], ◌∷◌, map, length, take, drop, IfSome, IfNone, IfOk, IfErr, None as Absent, vec_len, codes, Option, OnErr, OnOk};
 ghost use Rattle.geometry.specs.Frames.{sides};
 ghost use Rattle.job.specs.Jobs.{Later, Numbers, Reads, Rows, Says, SoFar, Spells, command_word, force, frame_after, keyword_word, left};
 ghost use Rattle.job.specs.Lines.{NoLine, Readable};
+ghost use Rattle.job.specs.Plain.{Reads as ReadsPlainly};
+ghost use Rattle.script.specs.Plain.{PlainCall, call_of};
 ghost use Rattle.text.specs.Problems.{Fault};
 ghost use Rattle.text.specs.Scans.{row_cells};
 ghost use Rattle.text.specs.Texts.{lines_of, words_of};
@@ -236,6 +238,9 @@ pub fn read(heap: Global, text: &[u8]) -> Result<Vec<Call>, JobError>
     ensures reads { IfOk result (λ v. Reads Absent (lines_of text.now) v.items) }
     ensures line { IfErr result (λ e. (1 ≤ e.line) × (e.line ≤ length (lines_of text.now) + 1)) }
     ensures malformed { IfErr result (λ e. Fault e.problem → (calls : List Call) → Reads Absent (lines_of text.now) calls → ⊥) }
+    ensures plain_reads { IfOk result (λ v. (cs : List PlainCall) → v.items ≡ map call_of cs → ReadsPlainly Absent (lines_of text.now) cs) }
+    ensures plain_only { IfOk result (λ v. (cs : List PlainCall) → ReadsPlainly Absent (lines_of text.now) cs → (ds : List PlainCall) × (v.items ≡ map call_of ds)) }
+    ensures plain_malformed { IfErr result (λ e. Fault e.problem → (cs : List PlainCall) → ReadsPlainly Absent (lines_of text.now) cs → ⊥) }
 {
     let mut reader = Reader {
         text: Text::new(text),

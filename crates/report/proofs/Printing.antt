@@ -3,11 +3,14 @@ use Rattle.std.proofs.Common.{◌≡◌, ℕ, ◌+◌, ◌<◌, ◌≤◌, List,
 use Rattle.std.proofs.lemmas.List.{append_assoc, append-nil, drop_all, drop_more, flat_map_more, take_more}
 use Rattle.std.specs.List.{flat_map}
 use Rattle.std.specs.Option.{option_map}
+use Rattle.script.proofs.Plainly.{plain_blocks, plain_last, plain_replies}
+use Rattle.script.specs.Plain.{PlainCall, call_of}
 use Rattle.script.specs.Scripts.{block_of, ran, reply_of, size_of}
 use Rattle.boxes.specs.declared.record.BoxRecord.{BoxRecord}
 use Rattle.script.specs.declared.call.Answer.{Answer}
 use Rattle.script.specs.declared.call.Call.{Call}
 use Rattle.script.specs.declared.session.Report.{Report}
+use Rattle.report.specs.Plain.{plain_output}
 use Rattle.report.specs.Outputs.{answers_text, block_text, blocks_text, box_line, box_lines, output, printed, reply_text, report_text, tally_text}
 
 pub pieces_more : {X : Type 0} (f : X → List ℕ) (xs : List X) (i : ℕ) (d : X) (front text after piece : List ℕ) → i < length xs → text ≡ front ++ flat_map f (take i xs) → after ≡ text ++ piece → piece ≡ f (get_or xs i d) → after ≡ front ++ flat_map f (take (i + 1) xs)
@@ -28,6 +31,10 @@ pub report_prints : (r : Report) (calls : List Call) → map reply_of (vec_items
 report_prints r calls answers blocks last =
     ap (λ t. t ++ blocks_text r.blocks ++ block_text r.last ++ tally_text (map reply_of (vec_items r.answers))) (answers_are (vec_items r.answers))
     ∙ (λ i. printed (answers i) (blocks i) (last i))
+
+-- plain calls print what they print as calls of a script
+pub prints_plainly : (cs : List PlainCall) → output (map call_of cs) ≡ plain_output cs
+prints_plainly cs = λ i. printed (plain_replies cs i) (plain_blocks cs i) (option_map size_of (plain_last cs i))
 
 -- one box more
 pub boxes_more : (xs : List BoxRecord) (i : ℕ) (d : BoxRecord) (all text after line : List ℕ) → i < length xs → text ++ box_lines (i + 1) (drop i xs) ≡ all → after ≡ text ++ line → line ≡ box_line (i + 1) (get_or xs i d) → after ++ box_lines (i + 1 + 1) (drop (i + 1) xs) ≡ all

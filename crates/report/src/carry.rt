@@ -1,6 +1,10 @@
 // A whole job: its text read, its calls made, and its answers written.
+ghost use Rattle.job.specs.Plain.{Reads as ReadsPlainly};
 ghost use Rattle.report.specs.Outputs.{Prints};
-ghost use Rattle.std.specs.Prelude.{IfOk, string_bytes};
+ghost use Rattle.report.specs.Plain.{PrintsPlainly};
+ghost use Rattle.script.specs.Plain.{PlainCall};
+ghost use Rattle.std.specs.Prelude.{List, IfOk, None as Absent, string_bytes};
+ghost use Rattle.text.specs.Texts.{lines_of};
 
 use crate::output::report_text;
 use job::reader::{JobError, read};
@@ -38,7 +42,8 @@ impl fmt::Display for Failure {
 
 // What a job prints, or why it was not carried out.
 pub fn carry_out(heap: Global, text: &[u8]) -> Result<String, Failure>
-    ensures { IfOk result (λ s. Prints text.now (string_bytes s)) }
+    ensures prints { IfOk result (λ s. Prints text.now (string_bytes s)) }
+    ensures plainly { IfOk result (λ s. (cs : List PlainCall) → ReadsPlainly Absent (lines_of text.now) cs → PrintsPlainly text.now (string_bytes s)) }
 {
     let calls = read(heap, text)?;
     let report = run(heap, calls.as_slice())?;
