@@ -58,7 +58,7 @@ pub enum CutCall {
 }
 
 // The calls that can answer something.
-#[derive(Clone, Copy)]
+#[derive(Clone, Copy, PartialEq, Eq, Debug)]
 pub enum CallName {
     Frame,
     Grid,
