@@ -29,11 +29,11 @@ abbrev pub plane_records : Solid → AxisOrder → ℕ → List BoxRecord
 plane_records m o a = map (record_of o) (plane_boxes (cells m o) (side_a m o) (side_b m o) (side_c m o) a)
 
 -- no cell outside is solid, and the tables have the skips along A, B and C
-pub record Viewed (m : Solid) (o : AxisOrder) (next-a next-b next-c : List ℕ) : Type 0 where
+pub record Viewed (m : Solid) (o : AxisOrder) (next_a next_b next_c : List ℕ) : Type 0 where
   pub inside : Inside m
-  pub along_a : Indexed m (axis_a o) next-a
-  pub along_b : Indexed m (axis_b o) next-b
-  pub along_c : Indexed m (axis_c o) next-c
+  pub along_a : Indexed m (axis_a o) next_a
+  pub along_b : Indexed m (axis_b o) next_b
+  pub along_c : Indexed m (axis_c o) next_c
 
 -- a range of C is a run of the row (a, b) of the frame
 pub record RunAt (m : Solid) (o : AxisOrder) (a b c c' : ℕ) : Type 0 where

@@ -68,7 +68,7 @@ translated_skip d side f p = of_source d side f (source_of d side p)
 
 -- the skip of two joined solids: the nearer one, where the second has not ended
 abbrev pub joined_skip : ℕ → ℕ → ℕ → ℕ → ℕ
-joined_skip second-side p q r = cond (nat_lt p second-side) (min q r) q
+joined_skip second_side p q r = cond (nat_lt p second_side) (min q r) q
 
 -- What the functions that layers share give.
 
