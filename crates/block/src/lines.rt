@@ -67,7 +67,7 @@ fn none_set(map: &[u64], points: &[Point], axis: Axis) -> bool
 }
 
 // Whether every line along an axis carries an even number of the points.
-pub fn are_even(points: &[Point], axis: Axis) -> bool
+pub(crate) fn are_even(points: &[Point], axis: Axis) -> bool
     requires { Near points.now }
     ensures { result ≡ even_along axis points.now }
 {

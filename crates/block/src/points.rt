@@ -7,7 +7,7 @@ use geometry::axis::Axis;
 use geometry::frame::{Cell, Point};
 
 // The coordinate of a point along an axis.
-pub fn coordinate(point: Point, axis: Axis) -> u16
+pub(crate) fn coordinate(point: Point, axis: Axis) -> u16
     ensures { result ≡ along axis point }
 {
     match axis {
@@ -25,7 +25,7 @@ fn is_below(point: Point, cell: Cell) -> bool
 }
 
 // Whether an odd number of the points are at or below a cell.
-pub fn odd_below(points: &[Point], cell: Cell) -> bool
+pub(crate) fn odd_below(points: &[Point], cell: Cell) -> bool
     ensures { result ≡ parity (at_or_below cell.x cell.y cell.z) points.now }
 {
     let mut odd = false;
@@ -36,7 +36,7 @@ pub fn odd_below(points: &[Point], cell: Cell) -> bool
 }
 
 // The first plane past a plane that has one of the points, or the side.
-pub fn plane_after(points: &[Point], axis: Axis, plane: u16, side: u16) -> u16
+pub(crate) fn plane_after(points: &[Point], axis: Axis, plane: u16, side: u16) -> u16
     ensures { result ≡ next_plane axis plane points.now side }
 {
     let mut next = side;

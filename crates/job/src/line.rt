@@ -76,7 +76,7 @@ fn take_number(line: &[u8]) -> Result<(u64, &[u8]), Problem>
 }
 
 // There is no word more.
-pub fn end_line(line: &[u8]) -> Result<(), Problem>
+pub(crate) fn end_line(line: &[u8]) -> Result<(), Problem>
     ensures end { OnOk result (words_of line.now ≡ []) }
     ensures more { OnErr result (words_of line.now ≢ []) }
 {
@@ -87,7 +87,7 @@ pub fn end_line(line: &[u8]) -> Result<(), Problem>
 }
 
 // The only word of the rest of a line, a number up to a limit.
-pub fn last_number(line: &[u8], most: u64) -> Result<u64, Problem>
+pub(crate) fn last_number(line: &[u8], most: u64) -> Result<u64, Problem>
     ensures number { IfOk result (λ n. Only (words_of line.now) n) }
     ensures bound { IfOk result (λ n. n ≤ most) }
     ensures none { OnErr result ((n : ℕ) → n ≤ most → Only (words_of line.now) n → ⊥) }
@@ -155,7 +155,7 @@ fn read_neighbour(line: &[u8]) -> Result<Call, Problem>
 }
 
 // The call that a command says with the rest of its line.
-pub fn read_command(command: Command, line: &[u8]) -> Result<Call, Problem>
+pub(crate) fn read_command(command: Command, line: &[u8]) -> Result<Call, Problem>
     ensures says { IfOk result (λ c. SaysAlone command (words_of line.now) c) }
     ensures none { OnErr result ((c : Call) → SaysAlone command (words_of line.now) c → ⊥) }
 {

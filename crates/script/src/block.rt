@@ -194,7 +194,7 @@ fn block_step<B: Counted + Drop>(
 
 // Makes the calls from a place on until one makes a frame or a block, or there is none left, and
 // gives the place of that call.
-pub fn while_held<B: Counted + Drop>(
+pub(crate) fn while_held<B: Counted + Drop>(
     heap: Global,
     body: B,
     calls: &[Call],

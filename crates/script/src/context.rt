@@ -31,7 +31,7 @@ fn blank_record() -> BoxRecord
 }
 
 impl Context {
-    pub fn new(heap: Global) -> Result<Context, AllocError>
+    pub(crate) fn new(heap: Global) -> Result<Context, AllocError>
         ensures { IfOk result (λ c. state_of c ≡ begun) }
     {
         let blank = blank_record();
@@ -44,7 +44,7 @@ impl Context {
     }
 
     // Adds an answer to those before.
-    pub fn tell(&mut self, answer: Answer) -> Result<(), AllocError>
+    pub(crate) fn tell(&mut self, answer: Answer) -> Result<(), AllocError>
         ensures { OnOk result (state_of self.new ≡ told (state_of self.old) (reply_of answer)) }
     {
         self.answers.push(answer)?;
@@ -52,7 +52,7 @@ impl Context {
     }
 
     // Adds an answer, if there is one.
-    pub fn tell_if(&mut self, answer: Option<Answer>) -> Result<(), AllocError>
+    pub(crate) fn tell_if(&mut self, answer: Option<Answer>) -> Result<(), AllocError>
         ensures { OnOk result (state_of self.new ≡ told_if (state_of self.old) (option_map reply_of answer)) }
     {
         match answer {
@@ -62,7 +62,7 @@ impl Context {
     }
 
     // Sets the length of a table. Boxes that stay keep their content.
-    pub fn set_table(&mut self, table: Table, length: usize) -> Result<(), AllocError>
+    pub(crate) fn set_table(&mut self, table: Table, length: usize) -> Result<(), AllocError>
         ensures { OnOk result (state_of self.new ≡ resized (state_of self.old) table length) }
     {
         match table {

@@ -70,7 +70,7 @@ fn reopens(call: CutCall) -> bool
 }
 
 // Whether the calls from a place on begin with one that makes a frame or a block, or there is none.
-pub fn at_end(calls: &[Call], at: usize) -> bool
+pub(crate) fn at_end(calls: &[Call], at: usize) -> bool
     ensures ends { result ≡ ends (drop at calls.now) }
     ensures within { result ≡ false → at < length calls.now }
 {
@@ -118,7 +118,7 @@ fn standing_step<B>(
 
 // Makes the calls from a place on until the cut is reopened, a call makes a frame or a block, or
 // there is none left, and gives the place of the next call.
-pub fn while_standing<B>(
+pub(crate) fn while_standing<B>(
     standing: &Cut<B>,
     calls: &[Call],
     from: usize,
