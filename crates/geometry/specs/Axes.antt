@@ -1,4 +1,4 @@
--- The axes that each of the six orders names, as (A, B, C).
+-- The axes, and those that each of the six orders names, as (A, B, C).
 use Rattle.geometry.specs.declared.axis.Axis.{Axis}
 use Rattle.geometry.specs.declared.axis.Axis.TheVariants.{X, Y, Z}
 use Rattle.geometry.specs.declared.axis.AxisOrder.{AxisOrder}
@@ -11,3 +11,9 @@ axes_of Yxz = (Y, X, Z)
 axes_of Yzx = (Y, Z, X)
 axes_of Zxy = (Z, X, Y)
 axes_of Zyx = (Z, Y, X)
+
+-- one of three values, by axis
+abbrev pub by_axis : {A : Type 0} → A → A → A → Axis → A
+by_axis x y z X = x
+by_axis x y z Y = y
+by_axis x y z Z = z

@@ -3,3 +3,4 @@ pub mod Cuboids
 pub mod Frames
 pub mod Refusals
 pub mod Shifts
+pub mod Words

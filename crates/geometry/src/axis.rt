@@ -1,12 +1,28 @@
 // The three axes, and the six orders in which a solid can be cut along them.
-ghost use Rattle.std.specs.Prelude.{◌≡◌};
-ghost use Rattle.geometry.specs.Axes.{axes_of};
+ghost use Rattle.std.specs.Prelude.{◌≡◌, Some};
+ghost use Rattle.geometry.specs.Axes.{axes_of, by_axis};
+ghost use Rattle.geometry.specs.Words.{order_word};
 
-#[derive(Clone, Copy)]
+use std::fmt;
+
+#[derive(Clone, Copy, PartialEq, Eq, Debug)]
 pub enum Axis {
     X,
     Y,
     Z,
+}
+
+impl Axis {
+    // The one of three values that belongs to the axis.
+    pub fn pick<T: Copy>(self, x: T, y: T, z: T) -> T
+        ensures { result ≡ by_axis x y z self }
+    {
+        match self {
+            Axis::X => x,
+            Axis::Y => y,
+            Axis::Z => z,
+        }
+    }
 }
 
 // The letters name the axes A, B and C, as Yxz has A = y, B = x and C = z.
@@ -33,5 +49,21 @@ impl AxisOrder {
             AxisOrder::Zxy => (Axis::Z, Axis::X, Axis::Y),
             AxisOrder::Zyx => (Axis::Z, Axis::Y, Axis::X),
         }
+    }
+}
+
+// The letters of the axes A, B and C.
+impl fmt::Display for AxisOrder {
+    ghost output = { λ o. Some (order_word o) };
+
+    fn fmt<W: fmt::Write>(&self, f: &mut fmt::Formatter<W>) -> fmt::Result {
+        f.write_str(match self {
+            AxisOrder::Xyz => "XYZ",
+            AxisOrder::Xzy => "XZY",
+            AxisOrder::Yxz => "YXZ",
+            AxisOrder::Yzx => "YZX",
+            AxisOrder::Zxy => "ZXY",
+            AxisOrder::Zyx => "ZYX",
+        })
     }
 }

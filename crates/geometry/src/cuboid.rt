@@ -6,6 +6,7 @@ ghost use Rattle.geometry.specs.Refusals.{Answers};
 ghost use Rattle.geometry.specs.declared.axis.Axis.TheVariants.{X, Y, Z};
 ghost use Rattle.geometry.specs.declared.refusal.Refusal.TheVariants.{BoxBounds};
 
+use crate::axis::Axis;
 use crate::frame::{Cell, LARGEST_SIDE, Point};
 use crate::refusal::Refusal;
 
@@ -19,10 +20,15 @@ pub struct Cuboid {
     high: Point,
 }
 
-fn is_range(low: u64, high: u64) -> bool
-    ensures { result ≡ range_ok low high }
+// Two numbers as a lower and an upper coordinate, if they are.
+fn range(low: u64, high: u64) -> Result<(u16, u16), Refusal>
+    ensures { Answers result (range_ok low high) (λ r. (r.0 ≡ low) × (r.1 ≡ high)) BoxBounds }
 {
-    low < high && high <= LARGEST_SIDE as u64
+    if low < high && high <= u64::from(LARGEST_SIDE) {
+        Ok((low as u16, high as u16))
+    } else {
+        Err(Refusal::BoxBounds)
+    }
 }
 
 impl Cuboid {
@@ -30,22 +36,17 @@ impl Cuboid {
     pub fn new(low: (u64, u64, u64), high: (u64, u64, u64)) -> Result<Cuboid, Refusal>
         ensures { Answers result (bounds_ok low high) (λ b. (lowers b ≡ sides_given low.0 low.1 low.2) × (uppers b ≡ sides_given high.0 high.1 high.2)) BoxBounds }
     {
-        if is_range(low.0, high.0) && is_range(low.1, high.1) && is_range(low.2, high.2) {
-            Ok(Cuboid {
-                low: Point {
-                    x: low.0 as u16,
-                    y: low.1 as u16,
-                    z: low.2 as u16,
-                },
-                high: Point {
-                    x: high.0 as u16,
-                    y: high.1 as u16,
-                    z: high.2 as u16,
-                },
-            })
-        } else {
-            Err(Refusal::BoxBounds)
-        }
+        let (x, x_end) = range(low.0, high.0)?;
+        let (y, y_end) = range(low.1, high.1)?;
+        let (z, z_end) = range(low.2, high.2)?;
+        Ok(Cuboid {
+            low: Point { x, y, z },
+            high: Point {
+                x: x_end,
+                y: y_end,
+                z: z_end,
+            },
+        })
     }
 
     // A box that reads as near to these points as one can.
@@ -76,6 +77,13 @@ impl Cuboid {
             y: self.high.y.min(LARGEST_SIDE).max(low.y + 1),
             z: self.high.z.min(LARGEST_SIDE).max(low.z + 1),
         }
+    }
+
+    // The lower and the upper coordinate along an axis.
+    pub fn range(self, axis: Axis) -> (u16, u16)
+        ensures { result ≡ (lowers self axis, uppers self axis) }
+    {
+        (self.lower().along(axis), self.upper().along(axis))
     }
 
     // Whether a cell lies in the box.

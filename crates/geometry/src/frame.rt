@@ -1,14 +1,17 @@
 // Frames, and the points and cells in them.
-ghost use Rattle.std.specs.Prelude.{◌≡◌, Bool, true, false, ◌&&◌};
+ghost use Rattle.std.specs.Prelude.{◌≡◌, Some};
+ghost use Rattle.geometry.specs.Axes.{by_axis};
 ghost use Rattle.geometry.specs.Refusals.{Answers};
 ghost use Rattle.geometry.specs.declared.refusal.Refusal.TheVariants.{FrameSide};
-ghost use Rattle.geometry.specs.Frames.{side_ok, side_of, sides, in_frame, on_frame, sides_ok, sides_given};
+ghost use Rattle.geometry.specs.Frames.{side_ok, sides, in_frame, on_frame, sides_ok, sides_given};
+ghost use Rattle.geometry.specs.Words.{point_text};
 
 use crate::axis::Axis;
 use crate::refusal::Refusal;
+use std::fmt;
 
-// A point by its coordinates, any numbers.
-#[derive(Clone, Copy, PartialEq, Eq, Debug)]
+// A point by its coordinates, any numbers. Points are ordered by x, then y, then z.
+#[derive(Clone, Copy, PartialEq, Eq, PartialOrd, Ord, Debug)]
 #[repr(C)]
 pub struct Point {
     pub x: u16,
@@ -16,8 +19,28 @@ pub struct Point {
     pub z: u16,
 }
 
+impl Point {
+    // The coordinate along an axis.
+    pub fn along(self, axis: Axis) -> u16
+        ensures { result ≡ by_axis self.x self.y self.z axis }
+    {
+        let Point { x, y, z } = self;
+        axis.pick(x, y, z)
+    }
+}
+
+// A point as (1 2 3).
+impl fmt::Display for Point {
+    ghost output = { λ p. Some (point_text p) };
+
+    fn fmt<W: fmt::Write>(&self, f: &mut fmt::Formatter<W>) -> fmt::Result {
+        let Point { x, y, z } = *self;
+        write!(f, "({x} {y} {z})")
+    }
+}
+
 // A unit cell by its lowest point, any numbers.
-#[derive(Clone, Copy)]
+#[derive(Clone, Copy, PartialEq, Eq, Debug)]
 pub struct Cell {
     pub x: u16,
     pub y: u16,
@@ -36,10 +59,15 @@ pub struct Frame {
 // The largest side, and the largest coordinate of a point in a frame.
 pub const LARGEST_SIDE: u16 = 1024;
 
-fn is_side(n: u64) -> bool
-    ensures { result ≡ side_ok n }
+// A number as a side, if it is one.
+fn side(n: u64) -> Result<u16, Refusal>
+    ensures { Answers result (side_ok n) (λ s. s ≡ n) FrameSide }
 {
-    1 <= n && n <= LARGEST_SIDE as u64
+    if 1 <= n && n <= u64::from(LARGEST_SIDE) {
+        Ok(n as u16)
+    } else {
+        Err(Refusal::FrameSide)
+    }
 }
 
 impl Frame {
@@ -47,27 +75,18 @@ impl Frame {
     pub fn new(x: u64, y: u64, z: u64) -> Result<Frame, Refusal>
         ensures { Answers result (sides_ok x y z) (λ f. sides f ≡ sides_given x y z) FrameSide }
     {
-        if is_side(x) && is_side(y) && is_side(z) {
-            Ok(Frame {
-                x: x as u16,
-                y: y as u16,
-                z: z as u16,
-            })
-        } else {
-            Err(Refusal::FrameSide)
-        }
+        Ok(Frame {
+            x: side(x)?,
+            y: side(y)?,
+            z: side(z)?,
+        })
     }
 
     // The side along an axis.
     pub fn side(self, axis: Axis) -> u16
         ensures { result ≡ sides self axis }
     {
-        let stored = match axis {
-            Axis::X => self.x,
-            Axis::Y => self.y,
-            Axis::Z => self.z,
-        };
-        stored.max(1).min(LARGEST_SIDE)
+        axis.pick(self.x, self.y, self.z).clamp(1, LARGEST_SIDE)
     }
 
     // Whether a cell lies in the frame.

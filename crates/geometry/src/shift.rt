@@ -19,10 +19,15 @@ pub struct Shift {
 // The farthest that a shift goes, either way.
 pub const FARTHEST: i16 = 1024;
 
-fn is_step(n: i64) -> bool
-    ensures { result ≡ step_ok n }
+// A number as a step, if it is one.
+fn step(n: i64) -> Result<i16, Refusal>
+    ensures { Answers result (step_ok n) (λ s. s ≡ n) ShiftRange }
 {
-    -(FARTHEST as i64) <= n && n <= FARTHEST as i64
+    if -i64::from(FARTHEST) <= n && n <= i64::from(FARTHEST) {
+        Ok(n as i16)
+    } else {
+        Err(Refusal::ShiftRange)
+    }
 }
 
 impl Shift {
@@ -30,26 +35,17 @@ impl Shift {
     pub fn new(x: i64, y: i64, z: i64) -> Result<Shift, Refusal>
         ensures { Answers result (steps_ok x y z) (λ s. steps s ≡ steps_given x y z) ShiftRange }
     {
-        if is_step(x) && is_step(y) && is_step(z) {
-            Ok(Shift {
-                x: x as i16,
-                y: y as i16,
-                z: z as i16,
-            })
-        } else {
-            Err(Refusal::ShiftRange)
-        }
+        Ok(Shift {
+            x: step(x)?,
+            y: step(y)?,
+            z: step(z)?,
+        })
     }
 
     // The number of cells along an axis.
     pub fn along(self, axis: Axis) -> i16
         ensures { result ≡ steps self axis }
     {
-        let stored = match axis {
-            Axis::X => self.x,
-            Axis::Y => self.y,
-            Axis::Z => self.z,
-        };
-        stored.max(-FARTHEST).min(FARTHEST)
+        axis.pick(self.x, self.y, self.z).clamp(-FARTHEST, FARTHEST)
     }
 }
