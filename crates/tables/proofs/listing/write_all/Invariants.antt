@@ -1,12 +1,13 @@
-use Rattle.std.proofs.Common.{◌≡◌, ◌-◌, ◌≤◌}
-use Rattle.tables.specs.Tables.{listed, write_on}
+use Rattle.std.proofs.Common.{◌≡◌, ◌-◌, ◌≤◌, length}
+use Rattle.tables.specs.Tables.{listed}
+use Rattle.tables.proofs.Placing.{placed_behind}
 use Rattle.tables.proofs.listing.write_all.Given as goal
 
--- what is left to write, behind what is written, is the whole list behind what was in use
+-- what is left to write, behind what is written, is the whole list
 abbrev pub invariant-loop-plane : goal.invariant-loop-plane
 invariant-loop-plane g l =
-    let m = g.L.Listing in
-    m.ready l.listing → (l.plane ≤ l.planes) × (write_on l.used (listed (m.part l.listing) (l.planes - l.plane) l.plane) l.table ≡ write_on l.initial.used (listed (m.part l.listing) l.planes 0) l.initial.table)
+    let part = g.L.Listing.part l.listing in
+    (l.plane ≤ l.planes) × (l.used ≤ length l.table) × (length l.table ≡ length l.initial.table) × (placed_behind l.used (listed part (l.planes - l.plane) l.plane) l.table ≡ placed_behind 0 (listed part l.planes 0) l.initial.table)
 
 abbrev pub decreases-loop-plane : goal.decreases-loop-plane
 decreases-loop-plane g l = l.planes - l.plane

@@ -1,9 +1,9 @@
-use Rattle.std.proofs.Common.{sym, ◌∙◌}
-use Rattle.tables.proofs.Writing.{write_none, write_fits, write_full}
+use Rattle.std.proofs.Common.{sym, refl, ◌∙◌, rules}
+use Rattle.tables.proofs.Placing.{both, placed_one, placed_one_full}
 use Rattle.tables.proofs.listing.write_one.Goals as goal
 
-pub returns-then-used-table : goal.returns-then-used-table
-returns-then-used-table g c = sym (write_fits _ _ _ _ c.if-used-table.true ∙ write_none _ _)
+pub returns-in_err-slot : goal.returns-in_err-slot
+returns-in_err-slot g c = both c.from_residual.ensures refl ∙ sym (placed_one_full _ _ (search rules))
 
-pub returns-else-used-table : goal.returns-else-used-table
-returns-else-used-table g c = sym (write_full _ _ _ _ c.if-used-table.false)
+pub returns : goal.returns
+returns g c = sym (placed_one _ _ (search rules))
