@@ -7,9 +7,10 @@ use Rattle.body.specs.Solids.{Solid, Skips}
 abbrev pub IndexedTo : Solid → Axis → ℕ → List ℕ → Type 0
 IndexedTo m a n next = (p : ℕ) → p < n → Skips m a p (slice_index next p)
 
--- every plane of the frame has
-abbrev pub Indexed : Solid → Axis → List ℕ → Type 0
-Indexed m a next = IndexedTo m a (m.side a) next
+-- a table of skips along an axis has the side, and the skip from each plane of the frame
+pub record Indexed (m : Solid) (a : Axis) (side : ℕ) (next : List ℕ) : Type 0 where
+  pub whole : side ≡ m.side a
+  pub each : IndexedTo m a side next
 
 -- r is where a walk over the planes 0 to the side goes from plane p: to its skip, and past the side
 -- from the side on

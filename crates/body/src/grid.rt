@@ -17,7 +17,7 @@ fn row_words(frame: Frame) -> usize
     ensures value { result ≡ row_words (sides frame Z) }
     ensures bound { result ≤ 16 }
 {
-    (frame.side(Axis::Z) as usize + 63) / 64
+    usize::from(frame.side(Axis::Z)).div_ceil(64)
 }
 
 // The number of rows along z.
@@ -25,76 +25,65 @@ fn rows(frame: Frame) -> usize
     ensures value { result ≡ sides frame X * sides frame Y }
     ensures bound { result ≤ 2 ^ 20 }
 {
-    frame.side(Axis::X) as usize * frame.side(Axis::Y) as usize
+    usize::from(frame.side(Axis::X)) * usize::from(frame.side(Axis::Y))
 }
 
-// The word at a place; past the end it is 0.
-fn word_at(words: &[u64], place: usize) -> u64
-    ensures { result ≡ slice_index words.now place }
-{
-    if place < words.len() { words[place] } else { 0 }
+// A row of cells along z, whose words are those from a place on. A word that is missing reads as 0.
+#[derive(Clone, Copy)]
+struct Row<'a> {
+    words: &'a [u64],
+    base: usize,
+    ghost small: { base < 2 ^ 32 },
 }
 
-// The changes in word w of the row that begins at `base`: bit b is one where cell 64 w + b of the
-// row differs from the cell before. Bit 0 of a row's first word has no cell before it.
-fn changes(words: &[u64], base: usize, w: usize) -> u64
-    requires { (base < 2 ^ 32) × (w < 2 ^ 32) }
-    ensures { (b : ℕ) → b < 64 → 0 < 64 * w + b → bit result b ≡ row_differs words.now base (64 * w + b) }
-{
-    let word = word_at(words, base + w);
-    let before = if w == 0 {
-        0
-    } else {
-        word_at(words, base + w - 1) >> 63
-    };
-    word ^ (word << 1 | before)
-}
+impl Row<'_> {
+    // A word of the row.
+    fn word(self, w: u16) -> u64
+        ensures { result ≡ slice_index self.entry.words.now (self.entry.base + w) }
+    {
+        self.words
+            .get(self.base + usize::from(w))
+            .copied()
+            .unwrap_or(0)
+    }
 
-// The first place from `from` on and below `limit` at which the row that begins at `base` changes,
-// or `limit`.
-fn row_change(words: &[u64], base: usize, from: u16, limit: u16) -> u16
-    requires { (base < 2 ^ 32) × ((0 < from) × ((from ≤ limit) × (limit ≤ 1024))) }
-    ensures { result ≡ first (row_differs words.now base) (limit - from) from }
-{
-    let mut at = from;
-    while at < limit {
-        let zeros = (changes(words, base, at as usize / 64) >> (at % 64)).trailing_zeros() as u16;
-        if zeros < 64 {
-            return limit.min(at + zeros);
+    // The changes in a word of the row: bit b is one where cell 64 w + b differs from the cell before.
+    // Bit 0 of the first word has no cell before it.
+    fn changes(self, w: u16) -> u64
+        ensures { (b : ℕ) → b < 64 → 0 < 64 * w + b → bit result b ≡ row_differs self.entry.words.now self.entry.base (64 * w + b) }
+    {
+        let word = self.word(w);
+        let before = if w == 0 { 0 } else { self.word(w - 1) >> 63 };
+        word ^ (word << 1 | before)
+    }
+
+    // The first place from `from` on and below `limit` at which the row changes, or `limit`.
+    fn first_change(self, from: u16, limit: u16) -> u16
+        requires { (0 < from) × ((from ≤ limit) × (limit ≤ 1024)) }
+        ensures { result ≡ first (row_differs self.entry.words.now self.entry.base) (limit - from) from }
+    {
+        for w in from / 64..limit.div_ceil(64) {
+            let at = from.max(w * 64);
+            let zeros = (self.changes(w) >> (at % 64)).trailing_zeros() as u16;
+            if zeros < 64 {
+                return limit.min(at + zeros);
+            }
         }
-        at = (at / 64 + 1) * 64;
+        limit
     }
-    limit
-}
 
-// The first place from `from` on and below `limit` at which one of the rows changes, or `limit`. A
-// row has `width` words.
-fn rows_change(words: &[u64], width: usize, rows: usize, from: u16, limit: u16) -> u16
-    requires { (width ≤ 16) × ((rows ≤ 2 ^ 20) × ((0 < from) × ((from ≤ limit) × (limit ≤ 1024)))) }
-    ensures { result ≡ first (rows_differ words.now width rows) (limit - from) from }
-{
-    let mut best = limit;
-    for row in 0..rows {
-        if best == from {
-            return best;
+    // The number of solid cells of the row, which has `side` cells.
+    fn count(self, side: u16) -> u32
+        ensures { result ≡ total (λ k. one (row_bit self.entry.words.now self.entry.base k)) side }
+    {
+        let whole = side / 64;
+        let mut count = 0;
+        for w in 0..whole {
+            count += self.word(w).count_ones();
         }
-        best = row_change(words, row * width, from, best);
+        let last = self.word(whole) & ((1 << (side % 64)) - 1);
+        count + last.count_ones()
     }
-    best
-}
-
-// The number of solid cells of the row that begins at `base` and has `side` cells.
-fn row_count(words: &[u64], base: usize, side: u16) -> u32
-    requires { base < 2 ^ 32 }
-    ensures { result ≡ total (λ k. one (row_bit words.now base k)) side }
-{
-    let whole = side as usize / 64;
-    let mut count = 0;
-    for w in 0..whole {
-        count += word_at(words, base + w).count_ones();
-    }
-    let last = word_at(words, base + whole) & ((1 << (side % 64)) - 1);
-    count + last.count_ones()
 }
 
 // A grid in its frame, over words that are only read. A word that is missing reads as 0, so that
@@ -117,17 +106,42 @@ impl<'a> PackedGrid<'a> {
         }
     }
 
+    // A row of cells along z.
+    fn row(&self, row: usize) -> Row<'a>
+        requires { row < 2 ^ 27 }
+        ensures { (result.words.now ≡ self.now.words.now) × (result.base ≡ row * row_words (sides self.now.frame Z)) }
+    {
+        Row {
+            words: self.words,
+            base: row * row_words(self.frame),
+        }
+    }
+
     // The number of solid cells.
     pub fn count(&self) -> u32
         ensures { result ≡ solid_cells (packed (sides self.now.frame) self.now.words.now) }
     {
-        let width = row_words(self.frame);
         let side = self.frame.side(Axis::Z);
         let mut count = 0;
         for row in 0..rows(self.frame) {
-            count += row_count(self.words, row * width, side);
+            count += self.row(row).count(side);
         }
         count
+    }
+
+    // The first place along z from `from` on and below `limit` at which some row changes, or `limit`.
+    fn next_change(&self, from: u16, limit: u16) -> u16
+        requires { (0 < from) × ((from ≤ limit) × (limit ≤ 1024)) }
+        ensures { result ≡ first (rows_differ self.now.words.now (row_words (sides self.now.frame Z)) (sides self.now.frame X * sides self.now.frame Y)) (limit - from) from }
+    {
+        let mut best = limit;
+        for row in 0..rows(self.frame) {
+            if best == from {
+                return best;
+            }
+            best = self.row(row).first_change(from, best);
+        }
+        best
     }
 }
 
@@ -144,11 +158,8 @@ impl Body for PackedGrid<'_> {
         if !self.frame.holds(cell) {
             return false;
         }
-        let row = cell.x as usize * self.frame.side(Axis::Y) as usize + cell.y as usize;
-        let word = word_at(
-            self.words,
-            row * row_words(self.frame) + cell.z as usize / 64,
-        );
+        let row = usize::from(cell.x) * usize::from(self.frame.side(Axis::Y)) + usize::from(cell.y);
+        let word = self.row(row).word(cell.z / 64);
         (word >> (cell.z % 64)) & 1 == 1
     }
 
@@ -159,13 +170,7 @@ impl Body for PackedGrid<'_> {
         }
         match axis {
             Axis::X | Axis::Y => plane + 1,
-            Axis::Z => rows_change(
-                self.words,
-                row_words(self.frame),
-                rows(self.frame),
-                plane + 1,
-                side,
-            ),
+            Axis::Z => self.next_change(plane + 1, side),
         }
     }
 }

@@ -1,17 +1,26 @@
 // Walks over the planes of a body: each skip is asked for once, and kept in a table.
-ghost use Rattle.std.specs.Prelude.{◌≡◌};
-ghost use Rattle.body.specs.Indexes.{Indexed, Walks};
+ghost use Rattle.std.specs.Prelude.{◌≡◌, ◌≤◌};
+ghost use Rattle.body.specs.Indexes.{Indexed};
 ghost use Rattle.body.specs.Solids.{Inside, Small};
+ghost use Rattle.geometry.specs.Axes.{axis_a, axis_b, axis_c};
 
 use crate::body::Body;
-use geometry::axis::Axis;
+use geometry::axis::{Axis, AxisOrder};
 
 // The most planes along an axis.
 pub const PLANES: usize = 1024;
 
-// The skips of a body along an axis, by plane.
-pub fn skip_table<B: Body>(body: &B, axis: Axis) -> [u16; PLANES]
-    ensures indexed { Indexed (B.meaning body.now) axis result }
+// The skips along an axis, by plane, and the side: the entries behind it mean nothing.
+#[derive(Drop)]
+pub struct SkipTable {
+    pub side: u16,
+    pub next: [u16; PLANES],
+    ghost fits: { side ≤ 1024 },
+}
+
+// The skips of a body along an axis.
+pub fn skip_table<B: Body>(body: &B, axis: Axis) -> SkipTable
+    ensures indexed { Indexed (B.meaning body.now) axis result.side result.next }
     ensures inside { Inside (B.meaning body.now) }
     ensures small { Small (B.meaning body.now) }
 {
@@ -24,17 +33,43 @@ pub fn skip_table<B: Body>(body: &B, axis: Axis) -> [u16; PLANES]
         }
         next[plane as usize] = stop;
     }
-    next
+    SkipTable { side, next }
 }
 
-// The plane that a walk over the planes 0 to the side goes to from a plane.
-pub fn walk_on<B: Body>(body: &B, axis: Axis, next: &[u16; PLANES], plane: u16) -> u16
-    ensures { Indexed (B.meaning body.now) axis next.now → Walks (B.meaning body.now) axis plane result }
-{
-    let side = body.frame().side(axis);
-    if plane < side {
-        next[plane as usize]
-    } else {
-        side + 1
+impl SkipTable {
+    ghost use Rattle.body.specs.Indexes.{Walks};
+    ghost use Rattle.body.specs.Solids.{Skips, Solid};
+    ghost use Rattle.geometry.specs.declared.axis.Axis.{Axis as TheAxis};
+
+    // A later plane, up to which all sections are as at the plane; from the side on, the side.
+    pub fn after(&self, plane: u16) -> u16
+        ensures { (m : Solid) (a : TheAxis) → Indexed m a self.now.side self.now.next → Skips m a plane result }
+    {
+        self.walk_on(plane).min(self.side)
     }
+
+    // The plane that a walk over the planes 0 to the side goes to from a plane.
+    pub fn walk_on(&self, plane: u16) -> u16
+        ensures { (m : Solid) (a : TheAxis) → Indexed m a self.now.side self.now.next → Walks m a plane result }
+    {
+        if plane < self.side {
+            self.next[plane as usize]
+        } else {
+            self.side + 1
+        }
+    }
+}
+
+// A body seen along the axes A, B and C of an order, with its skips along each of them.
+#[derive(Drop)]
+pub struct View<'a, B: Body> {
+    pub body: &'a B,
+    pub order: AxisOrder,
+    pub a: &'a SkipTable,
+    pub b: &'a SkipTable,
+    pub c: &'a SkipTable,
+    pub ghost inside: { Inside (B.Body.meaning body.now) },
+    pub ghost along_a: { Indexed (B.Body.meaning body.now) (axis_a order) a.now.side a.now.next },
+    pub ghost along_b: { Indexed (B.Body.meaning body.now) (axis_b order) b.now.side b.now.next },
+    pub ghost along_c: { Indexed (B.Body.meaning body.now) (axis_c order) c.now.side c.now.next },
 }

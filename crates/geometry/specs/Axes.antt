@@ -12,6 +12,15 @@ axes_of Yzx = (Y, Z, X)
 axes_of Zxy = (Z, X, Y)
 axes_of Zyx = (Z, Y, X)
 
+abbrev pub axis_a : AxisOrder → Axis
+axis_a o = (axes_of o).0
+
+abbrev pub axis_b : AxisOrder → Axis
+axis_b o = (axes_of o).1
+
+abbrev pub axis_c : AxisOrder → Axis
+axis_c o = (axes_of o).2
+
 -- one of three values, by axis
 abbrev pub by_axis : {A : Type 0} → A → A → A → Axis → A
 by_axis x y z X = x

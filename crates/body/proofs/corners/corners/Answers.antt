@@ -7,8 +7,8 @@ pub returns : goal.returns
 returns g c =
     let m = g.B.Body.meaning c.args.body.now in
     record {
-      outcome = corners_outcome_is m _ _ _ _ (c.fill.ensures (c.skip_table-next_x.ensures.indexed, c.skip_table-next_y.ensures.indexed, c.skip_table-next_z.ensures.indexed)) c.ok_or.ensures.value;
+      outcome = corners_outcome_is m _ _ _ _ c.fill.ensures c.ok_or.ensures.value;
       rises = corners_rise m;
-      even = corners_even m c.skip_table-next_x.ensures.inside;
-      determines = corners_determine m c.skip_table-next_x.ensures.inside;
+      even = corners_even m c.skip_table-x.ensures.inside;
+      determines = corners_determine m c.skip_table-x.ensures.inside;
     }

@@ -1,12 +1,9 @@
 use Rattle.geometry.specs.declared.axis.Axis.TheVariants.{Y}
-use Rattle.body.proofs.Flat.{walk_bounds, flat_row}
+use Rattle.body.proofs.Flat.{flat_row}
 use Rattle.body.proofs.corners.PlaneCornersListingPoint.after.Goals as goal
 
-pub returns : goal.returns
-returns g c =
+pub returns-clause-between : goal.returns-clause-between
+returns-clause-between g c =
     let self = c.args.self.now in
-    let m = g.B.Body.meaning self.body.now in
-    record {
-      bounds = λ ready. walk_bounds m Y _ _ (c.walk_on.ensures ready.0);
-      between = λ ready. flat_row m self.x _ _ (c.walk_on.ensures ready.0);
-    }
+    let m = g.B.Body.meaning self.view.now.body.now in
+    flat_row m self.x _ _ (c.walk_on.ensures m Y self.along_y)
