@@ -1,10 +1,8 @@
 -- Equal sections across an axis of an order are equal cells along A, B or C.
-use Rattle.std.proofs.Common.{◌≡◌, ℕ, ◌<◌, Bool, List, get_or, sym, subst}
-use Rattle.geometry.specs.declared.axis.Axis.{Axis}
+use Rattle.std.proofs.Common.{◌≡◌, ℕ, Bool}
 use Rattle.geometry.specs.declared.axis.AxisOrder.{AxisOrder}
 use Rattle.geometry.specs.declared.axis.AxisOrder.TheVariants.{Xyz, Xzy, Yxz, Yzx, Zxy, Zyx}
-use Rattle.body.specs.Indexes.{Indexed}
-use Rattle.body.specs.Solids.{Skips, Solid, section}
+use Rattle.body.specs.Solids.{section}
 use Rattle.boxes.specs.Orders.{along, axis_a, axis_b, axis_c}
 
 module _ (h : ℕ → ℕ → ℕ → Bool) (n p : ℕ) where
@@ -31,11 +29,3 @@ module _ (h : ℕ → ℕ → ℕ → Bool) (n p : ℕ) where
   same_along_c Yzx same a b = same a b
   same_along_c Zxy same a b = same a b
   same_along_c Zyx same a b = same b a
-
--- a skip from a table, along an axis that is known under another name
-pub skip_along : (m : Solid) (x y : Axis) (next : List ℕ) (p r : ℕ) → x ≡ y → (Indexed m x next → Skips m x p r) → Indexed m y next → Skips m y p r
-skip_along m x y next p r e skips ready = subst (λ z. Skips m z p r) e (skips (subst (λ z. Indexed m z next) (sym e) ready))
-
--- a skip read from a table
-pub skip_read : (m : Solid) (a : Axis) (next : List ℕ) (p r : ℕ) → r ≡ get_or next p 0 → Indexed m a next → p < m.side a → Skips m a p r
-skip_read m a next p r e ready below = subst (λ t. Skips m a p t) (sym e) (ready p below)

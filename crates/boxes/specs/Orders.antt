@@ -1,23 +1,12 @@
 -- Cells by the axes A, B and C of an order.
 use Rattle.std.specs.Prelude.{ℕ, Bool}
-use Rattle.geometry.specs.Axes.{axes_of}
-use Rattle.geometry.specs.declared.axis.Axis.{Axis}
+pub use Rattle.geometry.specs.Axes.{axis_a, axis_b, axis_c}
 use Rattle.geometry.specs.declared.axis.AxisOrder.{AxisOrder}
 use Rattle.geometry.specs.declared.axis.AxisOrder.TheVariants.{Xyz, Xzy, Yxz, Yzx, Zxy, Zyx}
 use Rattle.geometry.specs.declared.frame.Point.{Point}
 use Rattle.body.specs.Corners.{point}
 use Rattle.body.specs.Solids.{Solid}
 use Rattle.boxes.specs.Cuts.{plate, run}
-
--- the axes of an order
-abbrev pub axis_a : AxisOrder → Axis
-axis_a o = (axes_of o).0
-
-abbrev pub axis_b : AxisOrder → Axis
-axis_b o = (axes_of o).1
-
-abbrev pub axis_c : AxisOrder → Axis
-axis_c o = (axes_of o).2
 
 -- a function of x, y and z as one of the coordinates along A, B and C
 abbrev pub along : {T : Type 0} → AxisOrder → (ℕ → ℕ → ℕ → T) → ℕ → ℕ → ℕ → T

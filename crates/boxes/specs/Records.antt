@@ -4,10 +4,9 @@ use Rattle.geometry.specs.declared.axis.AxisOrder.{AxisOrder}
 use Rattle.geometry.specs.declared.refusal.Refusal.{Refusal}
 use Rattle.geometry.specs.declared.refusal.Refusal.TheVariants.{BoxesFull}
 use Rattle.tables.specs.Tables.{capacity, overlay}
-use Rattle.body.specs.Indexes.{Indexed}
-use Rattle.body.specs.Solids.{Inside, Solid}
+use Rattle.body.specs.Solids.{Solid}
 use Rattle.boxes.specs.Cuts.{Bounds, box_at, box_of_plate, box_of_run, boxes, plane_boxes, row_boxes}
-use Rattle.boxes.specs.Orders.{axis_a, axis_b, axis_c, cells, is_plate, is_run, place, side_a, side_b, side_c}
+use Rattle.boxes.specs.Orders.{cells, is_plate, is_run, place, side_a, side_b, side_c}
 use Rattle.boxes.specs.declared.record.BoxRecord.{BoxRecord}
 
 -- the record of a box with these bounds along A, B and C: it has no piece number yet
@@ -27,13 +26,6 @@ row_records m o a b = map (record_of o) (row_boxes (cells m o) (side_a m o) (sid
 
 abbrev pub plane_records : Solid → AxisOrder → ℕ → List BoxRecord
 plane_records m o a = map (record_of o) (plane_boxes (cells m o) (side_a m o) (side_b m o) (side_c m o) a)
-
--- no cell outside is solid, and the tables have the skips along A, B and C
-pub record Viewed (m : Solid) (o : AxisOrder) (next_a next_b next_c : List ℕ) : Type 0 where
-  pub inside : Inside m
-  pub along_a : Indexed m (axis_a o) next_a
-  pub along_b : Indexed m (axis_b o) next_b
-  pub along_c : Indexed m (axis_c o) next_c
 
 -- a range of C is a run of the row (a, b) of the frame
 pub record RunAt (m : Solid) (o : AxisOrder) (a b c c' : ℕ) : Type 0 where

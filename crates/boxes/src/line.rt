@@ -10,36 +10,27 @@ pub(crate) trait Line {
     // the size
     ghost extent: { Self → ℕ };
 
-    // what the clauses below take for granted of the value
-    ghost ready: { Self → Type 0 };
-
     fn size(&self) -> u16
         ensures { result ≡ extent self.now };
 
     fn at(&self, i: u16) -> bool
-        ensures { ready self.now → result ≡ holds self.now i };
+        ensures { result ≡ holds self.now i };
 
     // From i below the size, a later number, at most the size, such that from i up to it all is as at i.
     fn jump(&self, i: u16) -> u16
-        ensures bounds { ready self.now → i < extent self.now → (i < result) × (result ≤ extent self.now) }
-        ensures same { ready self.now → i < extent self.now → (n : ℕ) → i ≤ n → n < result → holds self.now n ≡ holds self.now i };
+        ensures bounds { i < extent self.now → (i < result) × (result ≤ extent self.now) }
+        ensures same { i < extent self.now → (n : ℕ) → i ≤ n → n < result → holds self.now n ≡ holds self.now i };
 }
 
-// Where the stretch that holds i ends. (A line that is ready never jumps to where it is.)
+// Where the stretch that holds i ends.
 pub(crate) fn stretch_end<L: Line>(line: &L, i: u16) -> u16
-    ensures { L.ready line.now → i < L.extent line.now → L.holds line.now i ≡ true → result ≡ reach (L.holds line.now) (L.extent line.now) i }
+    requires { (i < L.extent line.now) × (L.holds line.now i ≡ true) }
+    ensures { result ≡ reach (L.holds line.now) (L.extent line.now) i }
 {
     let size = line.size();
     let mut end = line.jump(i);
-    while end < size {
-        if !line.at(end) {
-            return end;
-        }
-        let next = line.jump(end);
-        if next <= end {
-            return end;
-        }
-        end = next;
+    while end < size && line.at(end) {
+        end = line.jump(end);
     }
     end
 }
@@ -54,8 +45,6 @@ impl<'a, L: Line> Line for Complement<'a, L> {
     ghost holds = { λ l i. not (L.Line.holds l.line.now i) };
 
     ghost extent = { λ l. L.Line.extent l.line.now };
-
-    ghost ready = { λ l. L.Line.ready l.line.now };
 
     fn size(&self) -> u16 {
         self.line.size()
@@ -73,7 +62,9 @@ impl<'a, L: Line> Line for Complement<'a, L> {
 // Where the gap ends that begins at i: the first number from i on, at which all is false, that begins a
 // stretch, or the size.
 pub(crate) fn gap_end<L: Line>(line: &L, i: u16) -> u16
-    ensures { L.ready line.now → i ≤ L.extent line.now → (i < L.extent line.now → L.holds line.now i ≡ false) → result ≡ reach (λ j. not (L.holds line.now j)) (L.extent line.now) i }
+    requires within { i ≤ L.extent line.now }
+    requires gap { i < L.extent line.now → L.holds line.now i ≡ false }
+    ensures { result ≡ reach (λ j. not (L.holds line.now j)) (L.extent line.now) i }
 {
     if i < line.size() {
         stretch_end(&Complement { line }, i)
@@ -84,55 +75,46 @@ pub(crate) fn gap_end<L: Line>(line: &L, i: u16) -> u16
 
 // Where the first stretch begins, or the size.
 pub(crate) fn first_start<L: Line>(line: &L) -> u16
-    ensures { L.ready line.now → result ≡ reach (λ j. not (L.holds line.now j)) (L.extent line.now) 0 }
+    ensures { result ≡ reach (λ j. not (L.holds line.now j)) (L.extent line.now) 0 }
 {
-    if line.at(0) {
-        return 0;
-    }
-    gap_end(line, 0)
+    if line.at(0) { 0 } else { gap_end(line, 0) }
 }
 
 // Whether the stretch that holds i begins there.
 pub(crate) fn is_first<L: Line>(line: &L, i: u16) -> bool
-    ensures { L.ready line.now → L.holds line.now i ≡ true → result ≡ opens (L.holds line.now) i }
+    requires { L.holds line.now i ≡ true }
+    ensures { result ≡ opens (L.holds line.now) i }
 {
-    if i == 0 {
-        return true;
-    }
-    !line.at(i - 1)
+    i == 0 || !line.at(i - 1)
 }
 
 // Whether a stretch begins at i.
 fn begins<L: Line>(line: &L, i: u16) -> bool
-    ensures { L.ready line.now → result ≡ opens (L.holds line.now) i }
+    ensures { result ≡ opens (L.holds line.now) i }
 {
-    if !line.at(i) {
-        return false;
-    }
-    is_first(line, i)
+    line.at(i) && is_first(line, i)
 }
 
 // Whether all is true from `low`, where it is, up to `high`.
 fn covers<L: Line>(line: &L, low: u16, high: u16) -> bool
-    ensures { L.ready line.now → low < high → high ≤ L.extent line.now → L.holds line.now low ≡ true → result ≡ all_true (L.holds line.now) (high - low) low }
+    requires bounds { (low < high) × (high ≤ L.extent line.now) }
+    requires first { L.holds line.now low ≡ true }
+    ensures { result ≡ all_true (L.holds line.now) (high - low) low }
 {
     let mut at = line.jump(low);
     while at < high {
         if !line.at(at) {
             return false;
         }
-        let next = line.jump(at);
-        if next <= at {
-            return false;
-        }
-        at = next;
+        at = line.jump(at);
     }
     true
 }
 
 // Whether the numbers from `low` up to `high` are a longest stretch.
 pub(crate) fn is_stretch<L: Line>(line: &L, low: u16, high: u16) -> bool
-    ensures { L.ready line.now → low < high → high ≤ L.extent line.now → result ≡ stretch (L.holds line.now) (L.extent line.now) low high }
+    requires { (low < high) × (high ≤ L.extent line.now) }
+    ensures { result ≡ stretch (L.holds line.now) (L.extent line.now) low high }
 {
     if !begins(line, low) {
         return false;

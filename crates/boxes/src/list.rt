@@ -1,14 +1,15 @@
 // The boxes of a body, by their lowest cells.
 ghost use Rattle.std.specs.Prelude.{◌≡◌};
-ghost use Rattle.boxes.specs.Records.{PlateAt, RunAt, Viewed, plane_records, plate_records, record_of, records_at, row_records, run_records};
+ghost use Rattle.boxes.specs.Records.{PlateAt, RunAt, plane_records, plate_records, record_of, records_at, row_records, run_records};
 ghost use Rattle.boxes.specs.Orders.{side_a, side_b, side_c};
 ghost use Rattle.std.specs.Option.{option_to_list};
-ghost use Rattle.tables.specs.Tables.{listed, write_on};
+ghost use Rattle.tables.specs.Tables.{listed, placed};
 
 use crate::line::{Line, first_start, gap_end, is_first, stretch_end};
 use crate::record::BoxRecord;
-use crate::view::{Plates, Row, Runs, View, next_plane, point_along};
+use crate::view::{Plates, Row, Runs, point_along};
 use body::body::Body;
+use body::walk::View;
 use geometry::axis::AxisOrder;
 use geometry::cuboid::Cuboid;
 use tables::listing::{Listing, write_all, write_one};
@@ -32,7 +33,8 @@ fn box_of_plate<'a, B: Body>(
     b: (u16, u16),
     c: (u16, u16),
 ) -> Option<BoxRecord>
-    ensures { Viewed (B.meaning view.now.body.now) view.now.order view.now.next_a.now view.now.next_b.now view.now.next_c.now → PlateAt (B.meaning view.now.body.now) view.now.order a b.0 b.1 c.0 c.1 → option_to_list result ≡ plate_records (B.meaning view.now.body.now) view.now.order a b.0 b.1 c.0 c.1 }
+    requires { PlateAt (B.meaning view.now.body.now) view.now.order a b.0 b.1 c.0 c.1 }
+    ensures { option_to_list result ≡ plate_records (B.meaning view.now.body.now) view.now.order a b.0 b.1 c.0 c.1 }
 {
     let plates = Plates {
         view,
@@ -55,7 +57,8 @@ fn box_of_run<'a, B: Body>(
     b: u16,
     c: (u16, u16),
 ) -> Option<BoxRecord>
-    ensures { Viewed (B.meaning view.now.body.now) view.now.order view.now.next_a.now view.now.next_b.now view.now.next_c.now → RunAt (B.meaning view.now.body.now) view.now.order a b c.0 c.1 → option_to_list result ≡ run_records (B.meaning view.now.body.now) view.now.order a b c.0 c.1 }
+    requires { RunAt (B.meaning view.now.body.now) view.now.order a b c.0 c.1 }
+    ensures { option_to_list result ≡ run_records (B.meaning view.now.body.now) view.now.order a b c.0 c.1 }
 {
     let runs = Runs {
         view,
@@ -70,35 +73,34 @@ fn box_of_run<'a, B: Body>(
     box_of_plate(view, a, (b, b_end), c)
 }
 
-// Writes a box, if there is one, behind the `used` first records.
-fn write_found(found: Option<BoxRecord>, table: &mut [BoxRecord], used: usize) -> Option<usize>
-    ensures { record { used = result; table = table.new } ≡ write_on used (option_to_list found) table.old }
+// Writes a box, if there is one, to the front of the table.
+fn write_found(found: Option<BoxRecord>, table: &mut [BoxRecord]) -> Option<usize>
+    ensures { record { count = result; table = table.new } ≡ placed (option_to_list found) table.old }
 {
     match found {
-        Some(item) => write_one(item, table, used),
-        None => Some(used),
+        Some(item) => write_one(item, table),
+        None => Some(0),
     }
 }
 
-// Writes the boxes whose lowest cell lies in a row behind the `used` first records. The row is walked
-// run by run, so that none of its cells is asked about twice.
+// Writes the boxes whose lowest cell lies in a row to the front of the table. The row is walked run by
+// run, so that none of its cells is asked about twice.
 fn write_row<'a, B: Body>(
     view: &'a View<'a, B>,
     a: u16,
     b: u16,
     table: &mut [BoxRecord],
-    used: usize,
 ) -> Option<usize>
-    ensures { Viewed (B.meaning view.now.body.now) view.now.order view.now.next_a.now view.now.next_b.now view.now.next_c.now → record { used = result; table = table.new } ≡ write_on used (listed (records_at (B.meaning view.now.body.now) view.now.order a b) (side_c (B.meaning view.now.body.now) view.now.order) 0) table.old }
+    ensures { record { count = result; table = table.new } ≡ placed (listed (records_at (B.meaning view.now.body.now) view.now.order a b) (side_c (B.meaning view.now.body.now) view.now.order) 0) table.old }
 {
     let row = Row { view, a, b };
     let size = row.size();
-    let mut used = used;
+    let mut used = 0;
     let mut c = first_start(&row);
     while c < size {
         let end = stretch_end(&row, c);
-        used = write_found(box_of_run(view, a, b, (c, end)), table, used)?;
-        c = gap_end(&row, end).max(c + 1);
+        used += write_found(box_of_run(view, a, b, (c, end)), &mut table[used..])?;
+        c = gap_end(&row, end);
     }
     Some(used)
 }
@@ -115,20 +117,16 @@ impl<'a, B: Body> Listing<BoxRecord> for PlaneBoxes<'a, B> {
 
     ghost parts = { λ l. side_b (B.Body.meaning l.view.now.body.now) l.view.now.order };
 
-    ghost ready = { λ l. Viewed (B.Body.meaning l.view.now.body.now) l.view.now.order l.view.now.next_a.now l.view.now.next_b.now l.view.now.next_c.now };
-
     fn planes(&self) -> u16 {
-        let (_, axis, _) = self.view.order.axes();
-        self.view.body.frame().side(axis)
+        self.view.b.side
     }
 
     fn after(&self, plane: u16) -> u16 {
-        let (_, axis, _) = self.view.order.axes();
-        next_plane(self.view.body, axis, self.view.next_b, plane)
+        self.view.b.after(plane)
     }
 
-    fn write_plane(&self, plane: u16, table: &mut [BoxRecord], used: usize) -> Option<usize> {
-        write_row(self.view, self.a, plane, table, used)
+    fn write_plane(&self, plane: u16, table: &mut [BoxRecord]) -> Option<usize> {
+        write_row(self.view, self.a, plane, table)
     }
 }
 
@@ -143,23 +141,19 @@ impl<'a, B: Body> Listing<BoxRecord> for BodyBoxes<'a, B> {
 
     ghost parts = { λ l. side_a (B.Body.meaning l.view.now.body.now) l.view.now.order };
 
-    ghost ready = { λ l. Viewed (B.Body.meaning l.view.now.body.now) l.view.now.order l.view.now.next_a.now l.view.now.next_b.now l.view.now.next_c.now };
-
     fn planes(&self) -> u16 {
-        let (axis, _, _) = self.view.order.axes();
-        self.view.body.frame().side(axis)
+        self.view.a.side
     }
 
     fn after(&self, plane: u16) -> u16 {
-        let (axis, _, _) = self.view.order.axes();
-        next_plane(self.view.body, axis, self.view.next_a, plane)
+        self.view.a.after(plane)
     }
 
-    fn write_plane(&self, plane: u16, table: &mut [BoxRecord], used: usize) -> Option<usize> {
+    fn write_plane(&self, plane: u16, table: &mut [BoxRecord]) -> Option<usize> {
         let plane = PlaneBoxes {
             view: self.view,
             a: plane,
         };
-        write_all(&plane, table, used)
+        write_all(&plane, table)
     }
 }

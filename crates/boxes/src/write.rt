@@ -1,30 +1,21 @@
 // The boxes of a body, written to a box table.
 ghost use Rattle.std.specs.Prelude.{◌≡◌};
 ghost use Rattle.boxes.specs.Laws.{LawfulCut};
-ghost use Rattle.boxes.specs.Records.{Viewed, cut_list};
+ghost use Rattle.boxes.specs.Records.{cut_list};
 ghost use Rattle.tables.specs.Tables.{filled};
 
 use crate::list::BodyBoxes;
 use crate::record::BoxRecord;
-use crate::view::View;
 use body::body::Body;
-use body::walk::skip_table;
+use body::walk::{View, skip_table};
 use geometry::axis::AxisOrder;
 use tables::listing::fill;
-
-// Writes the boxes of a body that is seen along the axes of an order.
-fn write_viewed<'a, B: Body>(view: &'a View<'a, B>, table: &mut [BoxRecord]) -> Option<usize>
-    ensures { Viewed (B.meaning view.now.body.now) view.now.order view.now.next_a.now view.now.next_b.now view.now.next_c.now → record { used = result; table = table.new } ≡ filled (cut_list (B.meaning view.now.body.now) view.now.order) table.old }
-{
-    let boxes = BodyBoxes { view };
-    fill(&boxes, table)
-}
 
 // Writes the boxes of a body to the front of the table, and gives their number; none where there are
 // more than the capacity, and the table then begins with the first ones.
 pub fn write_boxes<B: Body>(body: &B, order: AxisOrder, table: &mut [BoxRecord]) -> Option<usize>
     ensures lawful { LawfulCut (B.meaning body.now) order }
-    ensures boxes { record { used = result; table = table.new } ≡ filled (cut_list (B.meaning body.now) order) table.old }
+    ensures boxes { record { count = result; table = table.new } ≡ filled (cut_list (B.meaning body.now) order) table.old }
 {
     let (a, b, c) = order.axes();
     let next_a = skip_table(body, a);
@@ -33,9 +24,9 @@ pub fn write_boxes<B: Body>(body: &B, order: AxisOrder, table: &mut [BoxRecord])
     let view = View {
         body,
         order,
-        next_a: &next_a,
-        next_b: &next_b,
-        next_c: &next_c,
+        a: &next_a,
+        b: &next_b,
+        c: &next_c,
     };
-    write_viewed(&view, table)
+    fill(&BodyBoxes { view: &view }, table)
 }

@@ -3,15 +3,15 @@ use Rattle.boxes.proofs.Reaching.{all_true_is, all_true_not}
 use Rattle.boxes.proofs.line.covers.Goals as goal
 
 pub returns-then-not-at : goal.returns-then-not-at
-returns-then-not-at g c ready some h true-here =
+returns-then-not-at g c =
     let m = g.L.Line in
     let line = c.args.line.now in
-    let inv = c.loop-at.invariant ready some h true-here in
-    sym (all_true_not (m.holds line) (m.extent line) (c.args.high - c.args.low) c.args.low c.loop-at.at inv.0 (omega (arith, inv.0)) (sym (c.at.ensures ready) ∙ c.if-not-at.true))
+    let inv = c.loop-at.invariant in
+    sym (all_true_not (m.holds line) (m.extent line) (c.args.high - c.args.low) c.args.low c.loop-at.at inv.0 (omega (arith, inv.0)) (sym c.at.ensures ∙ c.if-not-at.true))
 
 pub returns : goal.returns
-returns g c ready some h true-here =
+returns g c =
     let m = g.L.Line in
     let line = c.args.line.now in
-    let inv = c.loop-at.invariant ready some h true-here in
+    let inv = c.loop-at.invariant in
     sym (all_true_is (m.holds line) (m.extent line) (c.args.high - c.args.low) c.args.low (λ j a b. inv.1 j a (omega arith)))

@@ -4,7 +4,7 @@ use Rattle.boxes.proofs.line.covers.Given as goal
 abbrev pub invariant-loop-at : goal.invariant-loop-at
 invariant-loop-at g l =
     let m = g.L.Line in
-    m.ready l.line → l.low < l.high → l.high ≤ m.extent l.line → m.holds l.line l.low ≡ true → (l.low ≤ l.at) × ((k : ℕ) → l.low ≤ k → k < l.at → m.holds l.line k ≡ true)
+    (l.low ≤ l.at) × ((k : ℕ) → l.low ≤ k → k < l.at → m.holds l.line k ≡ true)
 
 abbrev pub decreases-loop-at : goal.decreases-loop-at
 decreases-loop-at g l = l.high - l.at

@@ -4,7 +4,7 @@ use Rattle.boxes.proofs.line.stretch_end.Given as goal
 abbrev pub invariant-loop-end : goal.invariant-loop-end
 invariant-loop-end g l =
     let m = g.L.Line in
-    m.ready l.line → l.i < m.extent l.line → m.holds l.line l.i ≡ true → (l.i ≤ l.end) × (l.end ≤ l.size) × ((k : ℕ) → l.i ≤ k → k < l.end → m.holds l.line k ≡ true)
+    (l.i ≤ l.end) × (l.end ≤ l.size) × ((k : ℕ) → l.i ≤ k → k < l.end → m.holds l.line k ≡ true)
 
 abbrev pub decreases-loop-end : goal.decreases-loop-end
 decreases-loop-end g l = l.size - l.end

@@ -1,12 +1,22 @@
 use Rattle.std.proofs.Common.{◌≡◌, true, sym, ap, ◌∙◌, subst}
-use Rattle.boxes.specs.Orders.{is_run, side_b}
+use Rattle.boxes.specs.Orders.{is_run}
 use Rattle.boxes.specs.Records.{PlateAt, plate_records}
-use Rattle.boxes.specs.Stretches.{opens, reach}
+use Rattle.boxes.specs.Stretches.{opens}
 use Rattle.boxes.proofs.Boxing.{plate_begun, run_records_begun}
 use Rattle.boxes.proofs.list.box_of_run.Goals as goal
 
+pub box_of_plate-requires : goal.box_of_plate-requires
+box_of_plate-requires g c =
+    let view = c.args.view.now in
+    let m = g.B.Body.meaning view.body.now in
+    let o = view.order in
+    let c0 = c.args.c.0 in
+    let c1 = c.args.c.1 in
+    let first : opens (is_run m o c.args.a c0 c1) c.args.b ≡ true = sym c.is_first.ensures ∙ c.if-not-is_first.false in
+    subst (λ e. PlateAt m o c.args.a c.args.b e c0 c1) (sym c.stretch_end-b_end.ensures) (plate_begun m o c.args.a c.args.b c0 c1 c.requires first)
+
 pub returns : goal.returns
-returns g c viewed run =
+returns g c =
     let view = c.args.view.now in
     let m = g.B.Body.meaning view.body.now in
     let o = view.order in
@@ -14,7 +24,5 @@ returns g c viewed run =
     let b = c.args.b in
     let c0 = c.args.c.0 in
     let c1 = c.args.c.1 in
-    let first : opens (is_run m o a c0 c1) b ≡ true = sym (c.is_first.ensures (viewed.along_b, viewed.along_c, run.c_some, run.c_within) run.runs) ∙ c.if-not-is_first.false in
-    let end : c.stretch_end-b_end.result ≡ reach (is_run m o a c0 c1) (side_b m o) b = c.stretch_end-b_end.ensures (viewed.along_b, viewed.along_c, run.c_some, run.c_within) run.b_below run.runs in
-    let plate : PlateAt m o a b c.stretch_end-b_end.result c0 c1 = subst (λ e. PlateAt m o a b e c0 c1) (sym end) (plate_begun m o a b c0 c1 run first) in
-    c.box_of_plate.ensures viewed plate ∙ ap (λ e. plate_records m o a b e c0 c1) end ∙ sym (run_records_begun m o a b c0 c1 first)
+    let first : opens (is_run m o a c0 c1) b ≡ true = sym c.is_first.ensures ∙ c.if-not-is_first.false in
+    c.box_of_plate.ensures ∙ ap (λ e. plate_records m o a b e c0 c1) c.stretch_end-b_end.ensures ∙ sym (run_records_begun m o a b c0 c1 first)

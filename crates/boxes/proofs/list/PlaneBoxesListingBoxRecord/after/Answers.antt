@@ -1,16 +1,10 @@
-use Rattle.std.proofs.Common.{ap}
 use Rattle.boxes.specs.Orders.{axis_b}
 use Rattle.boxes.proofs.Passing.{passed_b}
-use Rattle.boxes.proofs.Turning.{skip_along}
 use Rattle.boxes.proofs.list.PlaneBoxesListingBoxRecord.after.Goals as goal
 
-pub returns : goal.returns
-returns g c =
+pub returns-clause-between : goal.returns-clause-between
+returns-clause-between g c =
     let self = c.args.self.now in
     let view = self.view.now in
     let m = g.B.Body.meaning view.body.now in
-    let skip = skip_along m _ (axis_b view.order) _ _ _ (ap (λ t. t.1) c.axes-axis.ensures) c.next_plane.ensures in
-    record {
-      bounds = λ viewed. (skip viewed.along_b).inside;
-      between = λ viewed. passed_b m view.order _ _ (skip viewed.along_b) self.a;
-    }
+    passed_b m view.order _ _ (c.after.ensures m (axis_b view.order) view.along_b) self.a

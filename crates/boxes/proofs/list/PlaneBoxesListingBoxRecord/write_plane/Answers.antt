@@ -1,5 +1,5 @@
 use Rattle.std.proofs.Common.{ap, ◌∙◌}
-use Rattle.tables.specs.Tables.{write_on}
+use Rattle.tables.specs.Tables.{placed}
 use Rattle.tables.proofs.Listed.{listed_map}
 use Rattle.boxes.specs.Cuts.{box_at}
 use Rattle.boxes.specs.Orders.{cells, side_a, side_b, side_c}
@@ -7,10 +7,10 @@ use Rattle.boxes.specs.Records.{record_of}
 use Rattle.boxes.proofs.list.PlaneBoxesListingBoxRecord.write_plane.Goals as goal
 
 pub returns : goal.returns
-returns g c viewed =
+returns g c =
     let self = c.args.self.now in
     let view = self.view.now in
     let m = g.B.Body.meaning view.body.now in
     let o = view.order in
-    c.write_row.ensures viewed
-    ∙ ap (λ l. write_on c.args.used l c.args.table.now) (listed_map (record_of o) (box_at (cells m o) (side_a m o) (side_b m o) (side_c m o) self.a c.args.plane) (side_c m o) 0)
+    c.write_row.ensures
+    ∙ ap (λ l. placed l c.args.table.now) (listed_map (record_of o) (box_at (cells m o) (side_a m o) (side_b m o) (side_c m o) self.a c.args.plane) (side_c m o) 0)
