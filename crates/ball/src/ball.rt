@@ -1,6 +1,6 @@
 // Balls of cells.
 ghost use Rattle.std.specs.Prelude.{◌≡◌};
-ghost use Rattle.ball.specs.Balls.{ball_skip, ball_solid, centre_along};
+ghost use Rattle.ball.specs.Balls.{ball_skip, ball_solid};
 ghost use Rattle.geometry.specs.Frames.{sides};
 
 use body::body::Body;
@@ -15,17 +15,6 @@ pub struct Ball {
     pub radius: u16,
 }
 
-// The coordinate of a cell along an axis.
-fn along(cell: Cell, axis: Axis) -> u16
-    ensures { result ≡ centre_along cell axis }
-{
-    match axis {
-        Axis::X => cell.x,
-        Axis::Y => cell.y,
-        Axis::Z => cell.z,
-    }
-}
-
 impl Body for Ball {
     ghost meaning = { λ b. ball_solid (sides b.frame) b.centre b.radius };
 
@@ -36,16 +25,17 @@ impl Body for Ball {
     }
 
     fn solid(&self, cell: Cell) -> bool {
-        let x = cell.x.abs_diff(self.centre.x) as u64;
-        let y = cell.y.abs_diff(self.centre.y) as u64;
-        let z = cell.z.abs_diff(self.centre.z) as u64;
-        let radius = self.radius as u64;
+        let x = u64::from(cell.x.abs_diff(self.centre.x));
+        let y = u64::from(cell.y.abs_diff(self.centre.y));
+        let z = u64::from(cell.z.abs_diff(self.centre.z));
+        let radius = u64::from(self.radius);
         self.frame.holds(cell) && x * x + y * y + z * z <= radius * radius
     }
 
     fn skip(&self, axis: Axis, plane: u16) -> u16 {
         let side = self.frame.side(axis);
-        let centre = along(self.centre, axis);
+        let Cell { x, y, z } = self.centre;
+        let centre = axis.pick(x, y, z);
         if side <= plane {
             side
         } else if plane.abs_diff(centre) <= self.radius {

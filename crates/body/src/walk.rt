@@ -1,5 +1,5 @@
 // Walks over the planes of a body: each skip is asked for once, and kept in a table.
-ghost use Rattle.std.specs.Prelude.{◌≡◌, ◌≤◌};
+ghost use Rattle.std.specs.Prelude.{◌≡◌, ℕ, ◌<◌, ◌≤◌, slice_index};
 ghost use Rattle.body.specs.Indexes.{Indexed};
 ghost use Rattle.body.specs.Solids.{Inside, Small};
 ghost use Rattle.geometry.specs.Axes.{axis_a, axis_b, axis_c};
@@ -10,12 +10,14 @@ use geometry::axis::{Axis, AxisOrder};
 // The most planes along an axis.
 pub const PLANES: usize = 1024;
 
-// The skips along an axis, by plane, and the side: the entries behind it mean nothing.
+// The skips along an axis, by plane, and the side: the entries behind it mean nothing. Each skip goes to
+// a later plane, at most the side.
 #[derive(Drop)]
 pub struct SkipTable {
     pub side: u16,
     pub next: [u16; PLANES],
-    ghost fits: { side ≤ 1024 },
+    pub ghost fits: { side ≤ 1024 },
+    pub ghost forth: { (p : ℕ) → p < side → (p < slice_index next p) × (slice_index next p ≤ side) },
 }
 
 // The skips of a body along an axis.

@@ -159,12 +159,3 @@ module _ (boxes : List Cuboid) (i : ℕ) where
 
   pub bound_all : (a : Axis) (p far e : ℕ) → length boxes ≤ i → next_bound a p (drop i boxes) far ≡ e → far ≡ e
   bound_all a p far e h is = sym (ap (λ l. next_bound a p l far) (drop_all i boxes h)) ∙ is
-
-  pub box_hit : (x y z : ℕ) (e : Bool) (d : Cuboid) → i < length boxes → true ≡ in_box (get_or boxes i d) x y z → some_box (drop i boxes) x y z ≡ e → true ≡ e
-  box_hit x y z e d h hit is = ap (λ b. b || some_box (drop (i + 1) boxes) x y z) hit ∙ sym (ap (λ l. some_box l x y z) (drop_more boxes i d h)) ∙ is
-
-  pub box_miss : (x y z : ℕ) (e : Bool) (d : Cuboid) → i < length boxes → false ≡ in_box (get_or boxes i d) x y z → some_box (drop i boxes) x y z ≡ e → some_box (drop (i + 1) boxes) x y z ≡ e
-  box_miss x y z e d h miss is = ap (λ b. b || some_box (drop (i + 1) boxes) x y z) miss ∙ sym (ap (λ l. some_box l x y z) (drop_more boxes i d h)) ∙ is
-
-  pub box_all : (x y z : ℕ) (e : Bool) → length boxes ≤ i → some_box (drop i boxes) x y z ≡ e → false ≡ e
-  box_all x y z e h is = sym (ap (λ l. some_box l x y z) (drop_all i boxes h)) ∙ is

@@ -2,10 +2,10 @@
 use Rattle.std.proofs.Common.{◌≡◌, ℕ, zero, suc, ◌+◌, ◌-◌, ◌*◌, ◌<◌, ◌≤◌, Bool, true, false, sym, refl, ap, ◌∙◌, subst, ap₂, add-mul, one-mul, zero-mul, arith}
 use mathlib.Core.Path.{fun_ext}
 use mir.Val.{bool_byte}
+use Rattle.std.proofs.lemmas.Nat.{mul-le}
 use Rattle.geometry.proofs.Bounds.{sides_bound}
 use Rattle.geometry.specs.Frames.{sides}
 use Rattle.geometry.specs.declared.frame.Frame.{Frame}
-use Rattle.geometry.specs.declared.axis.Axis.{Axis}
 use Rattle.geometry.specs.declared.axis.Axis.TheVariants.{X, Y, Z}
 use Rattle.body.specs.Solids.{Skips, Small, Solid, one, solid_cells, total}
 use Rattle.layers.specs.Counts.{plane_cells, row_cells}
@@ -28,11 +28,12 @@ counted_more f p q count here h same is at =
     let e : p + (q - p) ≡ q = omega arith in
     ap₂ (λ (c t : ℕ). c + (q - p) * t) is at ∙ sym (total_more f p (q - p) (λ n a b. same n a (omega arith))) ∙ ap (total f) e
 
--- what a turn adds: the stretch from p to q, of `here` each, within the side
-pub record Adds (f : ℕ → ℕ) (side p q count here : ℕ) : Type 0 where
-  pub later : p < q
-  pub within : q ≤ side
-  pub sum : count + (q - p) * here ≡ total f q
+pub stretch_bound : (p q sum here most : ℕ) → p ≤ q → sum ≤ p * most → here ≤ most → sum + (q - p) * here ≤ q * most
+stretch_bound p q sum here most h so_far each =
+    let d = q - p in
+    let more : d * here ≤ d * most = mul-le d here d most (omega arith) each in
+    let whole : p * most + d * most ≡ q * most = sym (add-mul p d most) ∙ ap (λ n. n * most) (omega arith) in
+    omega (arith, more, whole, so_far)
 
 pub total_bound : (f : ℕ → ℕ) (most n : ℕ) → ((i : ℕ) → f i ≤ most) → total f n ≤ n * most
 total_bound f most zero h = omega arith
@@ -51,12 +52,6 @@ one_byte b true e = ap bool_byte e
 one_byte b false e = ap bool_byte e
 
 module _ (m : Solid) where
-  -- the turn over a stretch that a skip passes over, where the planes' numbers are then equal
-  pub adds : (a : Axis) (f : ℕ → ℕ) (p q count here : ℕ) → p < m.side a → Skips m a p q → ((n : ℕ) → p ≤ n → n < q → f n ≡ f p) → count ≡ total f p → here ≡ f p → Adds f (m.side a) p q count here
-  adds a f p q count here h s same is at =
-      let later = (s.inside h).0 in
-      record { later = later; within = (s.inside h).1; sum = counted_more f p q count here (omega arith) same is at }
-
   -- the numbers of the planes that a skip passes over are equal
   pub steady_z : (i j p q : ℕ) → Skips m Z p q → (n : ℕ) → p ≤ n → n < q → one (m.holds i j n) ≡ one (m.holds i j p)
   steady_z i j p q s n a b = ap one (s.equal n i j a b)

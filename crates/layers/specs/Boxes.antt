@@ -1,5 +1,6 @@
 -- Lists of boxes.
 use Rattle.std.specs.Prelude.{ℕ, ◌+◌, ◌-◌, min, Bool, false, cond, ◌||◌, List, [], ◌∷◌, ◌==◌, nat_lt}
+use Rattle.std.specs.List.{list_any}
 use Rattle.geometry.specs.Cuboids.{in_box, lowers, uppers}
 use Rattle.geometry.specs.declared.axis.Axis.{Axis}
 use Rattle.geometry.specs.declared.cuboid.Cuboid.{Cuboid}
@@ -9,8 +10,7 @@ use Rattle.layers.specs.Layers.{framed}
 
 -- some box of the list holds the cell
 abbrev pub some_box : List Cuboid → ℕ → ℕ → ℕ → Bool
-some_box [] i j k = false
-some_box (b ∷ l) i j k = in_box b i j k || some_box l i j k
+some_box boxes i j k = list_any (λ b. in_box b i j k) boxes
 
 -- what a box list means: a cell of the frame is solid when some box holds it
 abbrev pub boxed : (Axis → ℕ) → List Cuboid → Solid

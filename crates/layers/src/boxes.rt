@@ -1,6 +1,5 @@
 // Lists of boxes.
 ghost use Rattle.std.specs.Prelude.{◌≡◌, take};
-ghost use Rattle.geometry.specs.Cuboids.{lowers, uppers};
 ghost use Rattle.geometry.specs.Frames.{sides};
 ghost use Rattle.tables.specs.Tables.{capacity};
 ghost use Rattle.layers.specs.Boxes.{boxed, boxed_skip, nearer as nearer-plane, next_bound, some_box};
@@ -9,9 +8,7 @@ use body::body::Body;
 use geometry::axis::Axis;
 use geometry::cuboid::Cuboid;
 use geometry::frame::{Cell, Frame};
-
-// The most boxes of a list.
-const MOST_BOXES: usize = 65536;
+use tables::listing::CAPACITY;
 
 // The cells of a frame that lie in one of the boxes, which may overlap and reach outside the frame.
 #[derive(Clone, Copy)]
@@ -27,7 +24,7 @@ impl<'a> BoxList<'a> {
     {
         BoxList {
             frame,
-            boxes: &boxes[..boxes.len().min(MOST_BOXES)],
+            boxes: &boxes[..boxes.len().min(CAPACITY)],
         }
     }
 }
@@ -36,25 +33,7 @@ impl<'a> BoxList<'a> {
 fn some_holds(boxes: &[Cuboid], cell: Cell) -> bool
     ensures { result ≡ some_box boxes.now cell.x cell.y cell.z }
 {
-    for item in boxes {
-        if item.holds(cell) {
-            return true;
-        }
-    }
-    false
-}
-
-// The bounds of a box along an axis.
-fn bounds(item: Cuboid, axis: Axis) -> (u16, u16)
-    ensures { result ≡ (lowers item axis, uppers item axis) }
-{
-    let low = item.lower();
-    let high = item.upper();
-    match axis {
-        Axis::X => (low.x, high.x),
-        Axis::Y => (low.y, high.y),
-        Axis::Z => (low.z, high.z),
-    }
+    boxes.iter().any(|item| item.holds(cell))
 }
 
 // The nearer of `far` and a bound past the plane.
@@ -70,7 +49,7 @@ fn next_bound(boxes: &[Cuboid], axis: Axis, plane: u16, far: u16) -> u16
 {
     let mut next = far;
     for item in boxes {
-        let (low, high) = bounds(*item, axis);
+        let (low, high) = item.range(axis);
         next = nearer(plane, nearer(plane, next, low), high);
     }
     next

@@ -17,10 +17,8 @@ fn less(shift: Shift, axis: Axis, n: u16) -> Option<u16>
     let size = step.unsigned_abs();
     if step < 0 {
         Some(n + size)
-    } else if size <= n {
-        Some(n - size)
     } else {
-        None
+        n.checked_sub(size)
     }
 }
 

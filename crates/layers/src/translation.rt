@@ -26,10 +26,8 @@ impl<B: Body> Body for Translation<B> {
     }
 
     fn solid(&self, cell: Cell) -> bool {
-        match cell_less(self.body.frame(), cell, self.shift) {
-            Some(beneath) => self.body.solid(beneath),
-            None => false,
-        }
+        let beneath = cell_less(self.body.frame(), cell, self.shift);
+        beneath.is_some_and(|below| self.body.solid(below))
     }
 
     fn skip(&self, axis: Axis, plane: u16) -> u16 {

@@ -11,8 +11,8 @@ returns-then-plane-centre c =
     let s = sides b.frame in
     let a = c.args.axis in
     let p = c.args.plane in
-    let far : b.radius < distance p c.along-centre.result = omega (arith, c.abs_diff.ensures) in
-    let value = c.min.ensures ∙ skip_before s b.centre b.radius a p c.side-side.result c.along-centre.result c.side-side.ensures c.along-centre.ensures (omega arith) far (omega arith) in
+    let far : b.radius < distance p c.pick-centre.result = omega (arith, c.abs_diff.ensures) in
+    let value = c.min.ensures ∙ skip_before s b.centre b.radius a p c.side-side.result c.pick-centre.result c.side-side.ensures c.pick-centre.ensures (omega arith) far (omega arith) in
     record { value = value; lawful = subst (Skips (ball_solid s b.centre b.radius) a p) (sym value) (ball_lawful s b.centre b.radius a p) }
 
 pub returns-else-plane-centre : goal.returns-else-plane-centre
@@ -21,6 +21,6 @@ returns-else-plane-centre c =
     let s = sides b.frame in
     let a = c.args.axis in
     let p = c.args.plane in
-    let far : b.radius < distance p c.along-centre.result = omega (arith, c.abs_diff.ensures) in
-    let value = skip_behind s b.centre b.radius a p c.side-side.result c.along-centre.result c.side-side.ensures c.along-centre.ensures (omega arith) far (omega arith) in
+    let far : b.radius < distance p c.pick-centre.result = omega (arith, c.abs_diff.ensures) in
+    let value = skip_behind s b.centre b.radius a p c.side-side.result c.pick-centre.result c.side-side.ensures c.pick-centre.ensures (omega arith) far (omega arith) in
     record { value = value; lawful = subst (Skips (ball_solid s b.centre b.radius) a p) (sym value) (ball_lawful s b.centre b.radius a p) }
