@@ -12,11 +12,14 @@ use geometry::axis::Axis;
 use geometry::frame::{Cell, Frame};
 use geometry::shift::Shift;
 use layers::boxes::BoxList;
+use layers::complement::Complement;
 use layers::join::Join;
-use layers::moves::{Source, cell_less, plane_more, skip_source};
+use layers::pair::Pair;
+use layers::translation::Translation;
 use std::alloc::{AllocError, Global};
 
 // A grid or a box list, or a layer over one pile or two.
+#[derive(Drop)]
 pub enum Pile<'a> {
     Grid(PackedGrid<'a>),
     Boxes(BoxList<'a>),
@@ -25,89 +28,32 @@ pub enum Pile<'a> {
     Joined(Join, Box<Pile<'a>>, Box<Pile<'a>>),
 }
 
-impl Drop for Pile<'_> {
-    fn drop(self) {
-        match self {
-            Pile::Grid(_) => {}
-            Pile::Boxes(_) => {}
-            Pile::Translated(_, below) => {
-                let _below = Box::into_inner(below);
-            }
-            Pile::Complement(below) => {
-                let _below = Box::into_inner(below);
-            }
-            Pile::Joined(_, first, second) => {
-                let _first = Box::into_inner(first);
-                let _second = Box::into_inner(second);
-            }
-        }
-    }
+// The layer over a pile that a translated one is.
+fn translation<'p, 'a>(shift: Shift, below: &'p Pile<'a>) -> Translation<&'p Pile<'a>>
+    ensures { (result.shift ≡ shift) × (result.body.now ≡ below.now) }
+{
+    Translation { shift, body: below }
 }
 
-// The frame of a pile: that of what is beneath, and of the first of two.
-fn pile_frame(pile: &Pile<'_>) -> Frame
-    ensures frame { sides result ≡ (piled pile.now).side }
-    ensures inside { Inside (piled pile.now) }
+// The layer that a complement is.
+fn complement<'p, 'a>(below: &'p Pile<'a>) -> Complement<&'p Pile<'a>>
+    ensures { result.body.now ≡ below.now }
 {
-    match pile {
-        Pile::Grid(grid) => grid.frame(),
-        Pile::Boxes(list) => list.frame(),
-        Pile::Translated(_, below) => pile_frame(below),
-        Pile::Complement(below) => pile_frame(below),
-        Pile::Joined(_, first, _) => pile_frame(first),
-    }
+    Complement { body: below }
 }
 
-// Whether a cell of a pile is solid.
-fn pile_solid(pile: &Pile<'_>, cell: Cell) -> bool
-    ensures { result ≡ (piled pile.now).holds cell.x cell.y cell.z }
+// The layer that two joined piles are.
+fn pair<'p, 'a>(
+    join: Join,
+    first: &'p Pile<'a>,
+    second: &'p Pile<'a>,
+) -> Pair<&'p Pile<'a>, &'p Pile<'a>>
+    ensures { (result.join ≡ join) × (result.first.now ≡ first.now) × (result.second.now ≡ second.now) }
 {
-    match pile {
-        Pile::Grid(grid) => grid.solid(cell),
-        Pile::Boxes(list) => list.solid(cell),
-        Pile::Translated(shift, below) => {
-            let below: &Pile<'_> = below;
-            match cell_less(pile_frame(below), cell, *shift) {
-                Some(beneath) => pile_solid(below, beneath),
-                None => false,
-            }
-        }
-        Pile::Complement(below) => pile_frame(below).holds(cell) && !pile_solid(below, cell),
-        Pile::Joined(join, first, second) => {
-            pile_frame(first).holds(cell)
-                && join.of(pile_solid(first, cell), pile_solid(second, cell))
-        }
-    }
-}
-
-// The skip of a pile from a plane.
-fn pile_skip(pile: &Pile<'_>, axis: Axis, plane: u16) -> u16
-    ensures value { result ≡ piled_skip pile.now axis plane }
-    ensures lawful { Skips (piled pile.now) axis plane result }
-{
-    match pile {
-        Pile::Grid(grid) => grid.skip(axis, plane),
-        Pile::Boxes(list) => list.skip(axis, plane),
-        Pile::Translated(shift, below) => {
-            let below: &Pile<'_> = below;
-            let side = pile_frame(below).side(axis);
-            match skip_source(*shift, axis, side, plane) {
-                Source::Here(skip) => skip,
-                Source::Beneath(beneath) => {
-                    plane_more(*shift, axis, side, pile_skip(below, axis, beneath))
-                }
-            }
-        }
-        Pile::Complement(below) => pile_skip(below, axis, plane),
-        Pile::Joined(_, first, second) => {
-            let second: &Pile<'_> = second;
-            let skip = pile_skip(first, axis, plane);
-            if plane < pile_frame(second).side(axis) {
-                skip.min(pile_skip(second, axis, plane))
-            } else {
-                skip
-            }
-        }
+    Pair {
+        join,
+        first,
+        second,
     }
 }
 
@@ -117,15 +63,35 @@ impl Body for Pile<'_> {
     ghost skips = { piled_skip };
 
     fn frame(&self) -> Frame {
-        pile_frame(self)
+        match self {
+            Pile::Grid(grid) => grid.frame(),
+            Pile::Boxes(list) => list.frame(),
+            Pile::Translated(_, below) => below.frame(),
+            Pile::Complement(below) => below.frame(),
+            Pile::Joined(_, first, _) => first.frame(),
+        }
     }
 
+    #[cycle(pile)]
     fn solid(&self, cell: Cell) -> bool {
-        pile_solid(self, cell)
+        match self {
+            Pile::Grid(grid) => grid.solid(cell),
+            Pile::Boxes(list) => list.solid(cell),
+            Pile::Translated(shift, below) => translation(*shift, below).solid(cell),
+            Pile::Complement(below) => complement(below).solid(cell),
+            Pile::Joined(join, first, second) => pair(*join, first, second).solid(cell),
+        }
     }
 
+    #[cycle(pile)]
     fn skip(&self, axis: Axis, plane: u16) -> u16 {
-        pile_skip(self, axis, plane)
+        match self {
+            Pile::Grid(grid) => grid.skip(axis, plane),
+            Pile::Boxes(list) => list.skip(axis, plane),
+            Pile::Translated(shift, below) => translation(*shift, below).skip(axis, plane),
+            Pile::Complement(below) => complement(below).skip(axis, plane),
+            Pile::Joined(join, first, second) => pair(*join, first, second).skip(axis, plane),
+        }
     }
 }
 
@@ -153,7 +119,8 @@ impl<'a> Pile<'a> {
         Ok(Pile::Joined(join, first, second))
     }
 
-    // A pile with the same meaning, which shares only the words and boxes at the bottom.
+    // A pile with the same meaning, which shares only the words and boxes at the bottom. (Not `Clone`:
+    // the library's clone of a box leads back to it, and no proof was found for that cycle.)
     pub fn duplicate(&self, heap: Global) -> Result<Pile<'a>, AllocError>
         ensures { IfOk result (λ p. piled p ≡ piled self.now) }
     {
