@@ -35,7 +35,8 @@ pub fn cell_less(frame: Frame, cell: Cell, shift: Shift) -> Option<Cell>
     Some(Cell { x, y, z })
 }
 
-// Where a translation's skip comes from: it is known, or it is the skip from a plane beneath, moved.
+// Where a translation's skip comes from: it is known, or it is the skip from a plane beneath, moved. (An
+// enum, and no closure for the skip beneath: the proof of a skip has to know which plane was asked.)
 #[derive(Clone, Copy)]
 pub enum Source {
     Here(u16),
