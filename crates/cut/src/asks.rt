@@ -55,7 +55,8 @@ pub fn volume(records: &[BoxRecord], count: usize) -> Result<u64, Refusal>
     Ok(total_cells(counted(records, count)?))
 }
 
-// The least number above `above` of a record that passes; the first record has number 1.
+// The least number above `above` of a record that passes; the first record has number 1. `q` is any
+// function that gives what the calls of `passes` give.
 fn first_above<F: Fn(&BoxRecord) -> bool>(
     records: &[BoxRecord],
     above: usize,
