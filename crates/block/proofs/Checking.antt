@@ -142,22 +142,6 @@ module _ (s : Axis → ℕ) (table : List Point) (count : ℕ) where
         takes = λ h lawful. refusal_within h ∙ points_taken s (take count table) lawful;
       }
 
--- the refusal by the first test that fails
-pub refused_outside : (s : Axis → ℕ) (l : List Point) → list_all (reached s) l ≡ false → points_refusal s l ≡ Some PointOutside
-unfolding points_refusal
-refused_outside s l h = ap (λ b. cond b (cond (rising l) (cond (even_lines l) None (Some OddLine)) (Some NotRising)) (Some PointOutside)) h
-
-module _ (s : Axis → ℕ) (l : List Point) (inside : list_all (reached s) l ≡ true) where
-  refused_later : points_refusal s l ≡ cond (rising l) (cond (even_lines l) None (Some OddLine)) (Some NotRising)
-  unfolding points_refusal
-  refused_later = ap (λ b. cond b (cond (rising l) (cond (even_lines l) None (Some OddLine)) (Some NotRising)) (Some PointOutside)) inside
-
-  pub refused_rising : rising l ≡ false → points_refusal s l ≡ Some NotRising
-  refused_rising h = refused_later ∙ ap (λ b. cond b (cond (even_lines l) None (Some OddLine)) (Some NotRising)) h
-
-  pub refused_lines : rising l ≡ true → (b : Bool) → even_lines l ≡ b → points_refusal s l ≡ cond b None (Some OddLine)
-  refused_lines h b e = refused_later ∙ ap (λ b. cond b (cond (even_lines l) None (Some OddLine)) (Some NotRising)) h ∙ ap (λ b. cond b None (Some OddLine)) e
-
 -- a frame has no point over 1,024
 pub reached_near : (s : Axis → ℕ) (l : List Point) → ((a : Axis) → s a ≤ 1024) → list_all (reached s) l ≡ true → Near l
 reached_near s l small h =

@@ -1,7 +1,6 @@
 -- What holds of all entries of a list, as a test and as a fact.
-use Rattle.std.proofs.Common.{◌≡◌, ℕ, zero, suc, ◌+◌, ◌<◌, ◌≤◌, Bool, true, false, ◌&&◌, List, [], ◌∷◌, length, get_or, drop, sym, refl, ap, ◌∙◌, ap₂, arith}
-use Rattle.std.proofs.lemmas.List.{at_drop_more, at_drop_all}
-use Rattle.std.proofs.lemmas.Bool.{and_from, and_left, and_parts}
+use Rattle.std.proofs.Common.{◌≡◌, ℕ, zero, suc, ◌<◌, Bool, true, ◌&&◌, List, [], ◌∷◌, length, get_or, refl, ap₂, arith}
+use Rattle.std.proofs.lemmas.Bool.{and_from, and_parts}
 use Rattle.body.specs.Corners.{All}
 use Rattle.std.specs.List.{list_all}
 
@@ -22,14 +21,3 @@ module _ {A : Type 0} where
   all_at P [] h i d below = absurd (omega arith)
   all_at P (p ∷ l) h zero d below = h.0
   all_at P (p ∷ l) h (suc i) d below = all_at P l h.1 i d (omega arith)
-
-  -- a loop that tests one entry after the other
-  module _ (Q : A → Bool) (l : List A) (i : ℕ) where
-    pub every_on : (d : A) → i < length l → Q (get_or l i d) ≡ true → list_all Q (drop i l) ≡ list_all Q l → list_all Q (drop (i + 1) l) ≡ list_all Q l
-    every_on d below yes-here inv = sym (at_drop_more (list_all Q) l i d below ∙ ap (λ b. b && list_all Q (drop (i + 1) l)) yes-here) ∙ inv
-
-    pub every_not : (d : A) → i < length l → Q (get_or l i d) ≡ false → list_all Q (drop i l) ≡ list_all Q l → false ≡ list_all Q l
-    every_not d below no-here inv = sym (and_left (Q (get_or l i d)) (list_all Q (drop (i + 1) l)) no-here) ∙ sym (at_drop_more (list_all Q) l i d below) ∙ inv
-
-    pub every_end : length l ≤ i → list_all Q (drop i l) ≡ list_all Q l → true ≡ list_all Q l
-    every_end past inv = sym (at_drop_all (list_all Q) l i past) ∙ inv

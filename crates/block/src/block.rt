@@ -95,14 +95,17 @@ impl Body for ShownBlock<'_> {
 
     ghost skips = { λ b. list_skip (sides b.frame) b.corners.now };
 
+    #[tactic(auto, using(crate::proofs::Exact::cells_inside), unfolding(crate::specs::Lists::cells_of))]
     fn frame(&self) -> Frame {
         self.frame
     }
 
+    #[tactic(auto, unfolding(crate::specs::Lists::cells_of))]
     fn solid(&self, cell: Cell) -> bool {
         self.frame.holds(cell) && odd_below(self.corners, cell)
     }
 
+    #[tactic(auto, using(crate::proofs::Skipping::skip_lawful), unfolding(crate::specs::Skips::list_skip))]
     fn skip(&self, axis: Axis, plane: u16) -> u16 {
         let side = self.frame.side(axis);
         if plane < side {

@@ -23,6 +23,7 @@ fn line_of(point: Point, axis: Axis) -> usize
 }
 
 // Turns one bit over.
+#[tactic(auto, using(crate::proofs::Bitmaps::toggled))]
 fn toggle(map: &mut [u64], at: usize)
     requires { at / 64 < length map.old }
     ensures { (n : ℕ) → bit_at map.new n ≡ differ (bit_at map.old n) (n == at) }
