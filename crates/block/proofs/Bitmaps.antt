@@ -13,7 +13,8 @@ use Rattle.body.specs.Grids.{bit}
 use Rattle.body.proofs.Bits.{bit_high, bit-bit_xor}
 use Rattle.body.proofs.Order.{all_map}
 use Rattle.body.proofs.Parity.{differ_false}
-use Rattle.block.specs.Lines.{Near, bit_at, even_along, every, first_across, line_place, odd_through, place, second_across}
+use Rattle.block.specs.Lines.{Near, bit_at, even_along, first_across, line_place, odd_through, place, second_across}
+use Rattle.std.specs.List.{list_all}
 use Rattle.block.proofs.Every.{all_at, every_same}
 use Rattle.block.proofs.Folds.{parity_end, parity_on}
 
@@ -105,7 +106,7 @@ pub toggling_end : (a : Axis) (l : List Point) (i : ℕ) (start map : List ℕ) 
 toggling_end a l i start map past inv u v hv = parity_end (on_line a u v) l i (bit_at map (place u v)) _ past (inv u v hv)
 
 -- from a blank bitmap on: the bits of the lines through the points say which are odd
-pub lines_read : (a : Axis) (l : List Point) (map : List ℕ) (k : ℕ) → Near l → ((u v : ℕ) → v < 1088 → bit_at map (place u v) ≡ differ (bit_at (replicate k 0) (place u v)) (parity (on_line a u v) l)) → every (λ p. not (bit_at map (line_place a p))) l ≡ even_along a l
+pub lines_read : (a : Axis) (l : List Point) (map : List ℕ) (k : ℕ) → Near l → ((u v : ℕ) → v < 1088 → bit_at map (place u v) ≡ differ (bit_at (replicate k 0) (place u v)) (parity (on_line a u v) l)) → list_all (λ p. not (bit_at map (line_place a p))) l ≡ even_along a l
 lines_read a l map k near bits =
     every_same _ _ l
     (all_map _ _ l (λ p h. ap not (bits (first_across a p) (second_across a p) (omega (arith, (near_across a p h).1)) ∙ ap (λ b. differ b (odd_through a l p)) (blank k (line_place a p)))) near)

@@ -1,7 +1,6 @@
 -- A list gets no refusal exactly when it is lawful.
-use Rattle.std.proofs.Common.{◌≡◌, ℕ, ◌+◌, ◌<◌, ◌≤◌, Bool, true, false, cond, not, ◌&&◌, eqb, ltb, leb, List, [], ◌∷◌, length, get_or, take, drop, Some, None, Option, sym, refl, ap, ◌∙◌, ap₂, inl, inr, ⊎_elim, arith}
-use Rattle.std.proofs.lemmas.List.{at_drop_all, at_drop_more}
-use Rattle.std.proofs.lemmas.Bool.{and_from, and_left, and_parts, both_ways, cases_Bool, eq-eqb, eqb-true, le-leb, leb-true, lt-leb, lt-ltb, ltb-true, not_from_false, not-true, or_cases, or_left, or_right}
+use Rattle.std.proofs.Common.{◌≡◌, ℕ, ◌<◌, ◌≤◌, Bool, true, false, cond, not, ◌&&◌, eqb, ltb, leb, List, [], ◌∷◌, take, drop, Some, None, Option, sym, refl, ap, ◌∙◌, ap₂, inl, inr, ⊎_elim, arith}
+use Rattle.std.proofs.lemmas.Bool.{and_from, and_parts, both_ways, cases_Bool, eq-eqb, eqb-true, le-leb, leb-true, lt-leb, lt-ltb, ltb-true, not_from_false, not-true, or_cases, or_left, or_right}
 use Rattle.geometry.specs.declared.axis.Axis.{Axis}
 use Rattle.geometry.specs.declared.axis.Axis.TheVariants.{X, Y, Z}
 use Rattle.geometry.specs.declared.frame.Point.{Point}
@@ -11,8 +10,9 @@ use Rattle.tables.specs.Tables.{capacity}
 use Rattle.body.specs.Solids.{differ}
 use Rattle.body.specs.Corners.{All, Before, EvenLines, Rising, on_line, parity}
 use Rattle.body.proofs.Order.{all_map}
-use Rattle.block.specs.Checks.{Checked, before, before_first, even_lines, list_refusal, points_refusal, rising}
-use Rattle.block.specs.Lines.{Near, even_along, every, first_across, odd_through, second_across}
+use Rattle.block.specs.Checks.{Checked, before, even_lines, list_refusal, points_refusal, rising}
+use Rattle.block.specs.Lines.{Near, even_along, first_across, odd_through, second_across}
+use Rattle.std.specs.List.{list_all, zip}
 use Rattle.block.specs.Lists.{Lawful, reached}
 use Rattle.block.proofs.Every.{all_every, every_all}
 use Rattle.block.proofs.Exact.{reached_within}
@@ -112,7 +112,7 @@ passed false b c x y z e = absurd (refused z e)
 pub points_passed : (s : Axis → ℕ) (l : List Point) → points_refusal s l ≡ None → Lawful s l
 unfolding points_refusal
 points_passed s l e =
-    let t = passed (every (reached s) l) (rising l) (even_lines l) OddLine NotRising PointOutside e in
+    let t = passed (list_all (reached s) l) (rising l) (even_lines l) OddLine NotRising PointOutside e in
     record { inside = every_all (reached s) l t.0; rises = rising_is l t.1; even = lines_is l t.2 }
 
 pub points_taken : (s : Axis → ℕ) (l : List Point) → Lawful s l → points_refusal s l ≡ None
@@ -142,40 +142,13 @@ module _ (s : Axis → ℕ) (table : List Point) (count : ℕ) where
         takes = λ h lawful. refusal_within h ∙ points_taken s (take count table) lawful;
       }
 
--- the refusal by the first test that fails
-pub refused_outside : (s : Axis → ℕ) (l : List Point) → every (reached s) l ≡ false → points_refusal s l ≡ Some PointOutside
-unfolding points_refusal
-refused_outside s l h = ap (λ b. cond b (cond (rising l) (cond (even_lines l) None (Some OddLine)) (Some NotRising)) (Some PointOutside)) h
-
-module _ (s : Axis → ℕ) (l : List Point) (inside : every (reached s) l ≡ true) where
-  refused_later : points_refusal s l ≡ cond (rising l) (cond (even_lines l) None (Some OddLine)) (Some NotRising)
-  unfolding points_refusal
-  refused_later = ap (λ b. cond b (cond (rising l) (cond (even_lines l) None (Some OddLine)) (Some NotRising)) (Some PointOutside)) inside
-
-  pub refused_rising : rising l ≡ false → points_refusal s l ≡ Some NotRising
-  refused_rising h = refused_later ∙ ap (λ b. cond b (cond (even_lines l) None (Some OddLine)) (Some NotRising)) h
-
-  pub refused_lines : rising l ≡ true → (b : Bool) → even_lines l ≡ b → points_refusal s l ≡ cond b None (Some OddLine)
-  refused_lines h b e = refused_later ∙ ap (λ b. cond b (cond (even_lines l) None (Some OddLine)) (Some NotRising)) h ∙ ap (λ b. cond b None (Some OddLine)) e
-
 -- a frame has no point over 1,024
-pub reached_near : (s : Axis → ℕ) (l : List Point) → ((a : Axis) → s a ≤ 1024) → every (reached s) l ≡ true → Near l
+pub reached_near : (s : Axis → ℕ) (l : List Point) → ((a : Axis) → s a ≤ 1024) → list_all (reached s) l ≡ true → Near l
 reached_near s l small h =
     all_map _ _ l (λ p r. let w = reached_within s p r in (omega (arith, w.0, small X), omega (arith, w.1, small Y), omega (arith, w.2, small Z))) (every_all (reached s) l h)
 
--- the loop over neighbours in the list
-module _ (l : List Point) (i : ℕ) where
-  pub rising_on : (d : Point) → i < length l → before_first (get_or l i d) (drop (i + 1) l) ≡ true → rising (drop i l) ≡ rising l → rising (drop (i + 1) l) ≡ rising l
-  rising_on d below yes-here inv = sym (at_drop_more rising l i d below ∙ ap (λ b. b && rising (drop (i + 1) l)) yes-here) ∙ inv
-
-  pub rising_not : (d : Point) → i < length l → before_first (get_or l i d) (drop (i + 1) l) ≡ false → rising (drop i l) ≡ rising l → false ≡ rising l
-  rising_not d below no-here inv = sym (and_left (before_first (get_or l i d) (drop (i + 1) l)) (rising (drop (i + 1) l)) no-here) ∙ sym (at_drop_more rising l i d below) ∙ inv
-
-  pub rising_end : length l ≤ i → rising (drop i l) ≡ rising l → true ≡ rising l
-  rising_end past inv = sym (at_drop_all rising l i past) ∙ inv
-
-  pub first_is : (p e : Point) → i < length l → before_first p (drop i l) ≡ before p (get_or l i e)
-  first_is p e below = at_drop_more (before_first p) l i e below
-
-  pub first_none : (p : Point) → length l ≤ i → before_first p (drop i l) ≡ true
-  first_none p past = at_drop_all (before_first p) l i past
+-- the list rises where each entry comes before that at the same place of the rest
+pub rising_pairs : (l : List Point) → list_all (λ r. before r.0 r.1) (zip l (drop 1 l)) ≡ rising l
+rising_pairs [] = refl
+rising_pairs (p ∷ []) = refl
+rising_pairs (p ∷ (q ∷ l)) = ap (λ b. before p q && b) (rising_pairs (q ∷ l))

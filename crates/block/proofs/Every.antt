@@ -1,20 +1,19 @@
 -- What holds of all entries of a list, as a test and as a fact.
-use Rattle.std.proofs.Common.{◌≡◌, ℕ, zero, suc, ◌+◌, ◌<◌, ◌≤◌, Bool, true, false, ◌&&◌, List, [], ◌∷◌, length, get_or, drop, sym, refl, ap, ◌∙◌, ap₂, arith}
-use Rattle.std.proofs.lemmas.List.{at_drop_more, at_drop_all}
-use Rattle.std.proofs.lemmas.Bool.{and_from, and_left, and_parts}
+use Rattle.std.proofs.Common.{◌≡◌, ℕ, zero, suc, ◌<◌, Bool, true, ◌&&◌, List, [], ◌∷◌, length, get_or, refl, ap₂, arith}
+use Rattle.std.proofs.lemmas.Bool.{and_from, and_parts}
 use Rattle.body.specs.Corners.{All}
-use Rattle.block.specs.Lines.{every}
+use Rattle.std.specs.List.{list_all}
 
 module _ {A : Type 0} where
-  pub every_all : (Q : A → Bool) (l : List A) → every Q l ≡ true → All (λ p. Q p ≡ true) l
+  pub every_all : (Q : A → Bool) (l : List A) → list_all Q l ≡ true → All (λ p. Q p ≡ true) l
   every_all Q [] h = tt
-  every_all Q (p ∷ l) h = let e = and_parts (Q p) (every Q l) h in (e.0, every_all Q l e.1)
+  every_all Q (p ∷ l) h = let e = and_parts (Q p) (list_all Q l) h in (e.0, every_all Q l e.1)
 
-  pub all_every : (Q : A → Bool) (l : List A) → All (λ p. Q p ≡ true) l → every Q l ≡ true
+  pub all_every : (Q : A → Bool) (l : List A) → All (λ p. Q p ≡ true) l → list_all Q l ≡ true
   all_every Q [] h = refl
-  all_every Q (p ∷ l) h = and_from (Q p) (every Q l) h.0 (all_every Q l h.1)
+  all_every Q (p ∷ l) h = and_from (Q p) (list_all Q l) h.0 (all_every Q l h.1)
 
-  pub every_same : (P Q : A → Bool) (l : List A) → All (λ p. P p ≡ Q p) l → every P l ≡ every Q l
+  pub every_same : (P Q : A → Bool) (l : List A) → All (λ p. P p ≡ Q p) l → list_all P l ≡ list_all Q l
   every_same P Q [] same = refl
   every_same P Q (p ∷ l) same = ap₂ ◌&&◌ same.0 (every_same P Q l same.1)
 
@@ -22,14 +21,3 @@ module _ {A : Type 0} where
   all_at P [] h i d below = absurd (omega arith)
   all_at P (p ∷ l) h zero d below = h.0
   all_at P (p ∷ l) h (suc i) d below = all_at P l h.1 i d (omega arith)
-
-  -- a loop that tests one entry after the other
-  module _ (Q : A → Bool) (l : List A) (i : ℕ) where
-    pub every_on : (d : A) → i < length l → Q (get_or l i d) ≡ true → every Q (drop i l) ≡ every Q l → every Q (drop (i + 1) l) ≡ every Q l
-    every_on d below yes-here inv = sym (at_drop_more (every Q) l i d below ∙ ap (λ b. b && every Q (drop (i + 1) l)) yes-here) ∙ inv
-
-    pub every_not : (d : A) → i < length l → Q (get_or l i d) ≡ false → every Q (drop i l) ≡ every Q l → false ≡ every Q l
-    every_not d below no-here inv = sym (and_left (Q (get_or l i d)) (every Q (drop (i + 1) l)) no-here) ∙ sym (at_drop_more (every Q) l i d below) ∙ inv
-
-    pub every_end : length l ≤ i → every Q (drop i l) ≡ every Q l → true ≡ every Q l
-    every_end past inv = sym (at_drop_all (every Q) l i past) ∙ inv

@@ -6,7 +6,8 @@ use Rattle.geometry.specs.declared.frame.Point.{Point}
 use Rattle.geometry.specs.declared.refusal.Refusal.{Refusal}
 use Rattle.geometry.specs.declared.refusal.Refusal.TheVariants.{CountOver, PointOutside, NotRising, OddLine}
 use Rattle.tables.specs.Tables.{capacity}
-use Rattle.block.specs.Lines.{even_along, every}
+use Rattle.block.specs.Lines.{even_along}
+use Rattle.std.specs.List.{list_all}
 use Rattle.block.specs.Lists.{Lawful, reached}
 
 -- p comes before q: by x, then y, then z
@@ -30,7 +31,7 @@ even_lines l = even_along X l && (even_along Y l && even_along Z l)
 -- the refusal of a list of points: each rule is tested of the whole list before the next
 unfoldable pub points_refusal : (Axis → ℕ) → List Point → Option Refusal
 points_refusal s l =
-    cond (every (reached s) l) (cond (rising l) (cond (even_lines l) None (Some OddLine)) (Some NotRising)) (Some PointOutside)
+    cond (list_all (reached s) l) (cond (rising l) (cond (even_lines l) None (Some OddLine)) (Some NotRising)) (Some PointOutside)
 
 -- the refusal of the first `count` points of a table
 unfoldable pub list_refusal : (Axis → ℕ) → List Point → ℕ → Option Refusal

@@ -1,5 +1,6 @@
 -- Lines along an axis through points, and bitmaps with a bit for each line.
-use Rattle.std.specs.Prelude.{ℕ, ◌+◌, ◌*◌, ◌/◌, ◌%◌, ◌≤◌, Bool, true, not, ◌&&◌, List, [], ◌∷◌, slice_index}
+use Rattle.std.specs.Prelude.{ℕ, ◌+◌, ◌*◌, ◌/◌, ◌%◌, ◌≤◌, Bool, not, List, slice_index}
+use Rattle.std.specs.List.{list_all}
 use Rattle.geometry.specs.declared.axis.Axis.{Axis}
 use Rattle.geometry.specs.declared.axis.Axis.TheVariants.{X, Y, Z}
 use Rattle.geometry.specs.declared.frame.Point.{Point}
@@ -21,14 +22,9 @@ second_across Z p = p.y
 abbrev pub odd_through : Axis → List Point → Point → Bool
 odd_through a l p = parity (on_line a (first_across a p) (second_across a p)) l
 
--- all entries pass
-abbrev pub every : {A : Type 0} → (A → Bool) → List A → Bool
-every Q [] = true
-every Q (p ∷ l) = Q p && every Q l
-
 -- the lines along an axis through the points of a list are even; any other line carries none of them
 abbrev pub even_along : Axis → List Point → Bool
-even_along a l = every (λ p. not (odd_through a l p)) l
+even_along a l = list_all (λ p. not (odd_through a l p)) l
 
 -- the bit of a line in a bitmap, in rows of 1,088 bits
 abbrev pub place : ℕ → ℕ → ℕ

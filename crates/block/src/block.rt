@@ -6,7 +6,7 @@ ghost use Rattle.block.specs.Lists.{Lawful, cells_of};
 ghost use Rattle.block.specs.Skips.{list_skip};
 ghost use Rattle.geometry.specs.Frames.{sides};
 
-use crate::check::list_refusal;
+use crate::check::check_list;
 use crate::points::{odd_below, plane_after};
 use body::body::Body;
 use geometry::axis::Axis;
@@ -43,10 +43,8 @@ impl OpenBlock {
         ensures stand { ListsStand }
         ensures listed { SolidsListed }
     {
-        match list_refusal(frame, table, count) {
-            None => Ok(OpenBlock { frame, count }),
-            Some(refusal) => Err(refusal),
-        }
+        check_list(frame, table, count)?;
+        Ok(OpenBlock { frame, count })
     }
 
     // The number of corners.
@@ -62,12 +60,13 @@ impl OpenBlock {
         ensures outcome { elim result [ Ok s ↦ (list_refusal (sides self.frame) table.now self.count ≡ None) × (s.corners.now ≡ take self.count table.now) × (record { frame = s.frame; count = length s.corners.now } ≡ self) | Err p ↦ (list_refusal (sides self.frame) table.now self.count ≡ Some p.1) × (p.0 ≡ self) ] }
         ensures lawful { elim result [ Ok s ↦ Lawful (sides s.frame) s.corners.now × Stands (sides s.frame) s.corners.now | Err p ↦ Unit {0} ] }
     {
-        match list_refusal(self.frame, table, self.count) {
-            None => Ok(ShownBlock {
+        // not by ?: what is refused hands the block back
+        match check_list(self.frame, table, self.count) {
+            Ok(()) => Ok(ShownBlock {
                 frame: self.frame,
                 corners: &table[..self.count],
             }),
-            Some(refusal) => Err((self, refusal)),
+            Err(refusal) => Err((self, refusal)),
         }
     }
 }
@@ -96,14 +95,17 @@ impl Body for ShownBlock<'_> {
 
     ghost skips = { λ b. list_skip (sides b.frame) b.corners.now };
 
+    #[tactic(auto, using(crate::proofs::Exact::cells_inside), unfolding(crate::specs::Lists::cells_of))]
     fn frame(&self) -> Frame {
         self.frame
     }
 
+    #[tactic(auto, unfolding(crate::specs::Lists::cells_of))]
     fn solid(&self, cell: Cell) -> bool {
         self.frame.holds(cell) && odd_below(self.corners, cell)
     }
 
+    #[tactic(auto, using(crate::proofs::Skipping::skip_lawful), unfolding(crate::specs::Skips::list_skip))]
     fn skip(&self, axis: Axis, plane: u16) -> u16 {
         let side = self.frame.side(axis);
         if plane < side {

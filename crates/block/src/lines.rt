@@ -1,6 +1,7 @@
 // Lines along an axis: whether each carries an even number of the points of a list.
 ghost use Rattle.std.specs.Prelude.{◌≡◌, ℕ, ◌/◌, ◌<◌, not, length, ◌==◌};
-ghost use Rattle.block.specs.Lines.{Near, bit_at, even_along, every, line_place, place};
+ghost use Rattle.block.specs.Lines.{Near, bit_at, even_along, line_place, place};
+ghost use Rattle.std.specs.List.{list_all};
 ghost use Rattle.body.specs.Corners.{on_line, parity};
 ghost use Rattle.body.specs.Solids.{differ};
 
@@ -17,15 +18,12 @@ const WORDS: usize = 17425;
 fn line_of(point: Point, axis: Axis) -> usize
     ensures { result ≡ line_place axis point }
 {
-    let (row, column) = match axis {
-        Axis::X => (point.y, point.z),
-        Axis::Y => (point.z, point.x),
-        Axis::Z => (point.x, point.y),
-    };
-    row as usize * ROW + column as usize
+    let (row, column) = axis.pick((point.y, point.z), (point.z, point.x), (point.x, point.y));
+    usize::from(row) * ROW + usize::from(column)
 }
 
 // Turns one bit over.
+#[tactic(auto, using(crate::proofs::Bitmaps::toggled))]
 fn toggle(map: &mut [u64], at: usize)
     requires { at / 64 < length map.old }
     ensures { (n : ℕ) → bit_at map.new n ≡ differ (bit_at map.old n) (n == at) }
@@ -34,14 +32,12 @@ fn toggle(map: &mut [u64], at: usize)
 }
 
 // Whether a bit is one; past the end none is.
+#[tactic(auto, using(body::proofs::Bits::bit_test, crate::proofs::Bitmaps::bit_none))]
 fn is_set(map: &[u64], at: usize) -> bool
     ensures { result ≡ bit_at map.now at }
 {
-    if at / 64 < map.len() {
-        (map[at / 64] >> (at % 64)) & 1 == 1
-    } else {
-        false
-    }
+    map.get(at / 64)
+        .is_some_and(|word| (*word >> (at % 64)) & 1 == 1)
 }
 
 // Turns the bit of its line over for each point.
@@ -56,14 +52,11 @@ fn toggle_lines(map: &mut [u64], points: &[Point], axis: Axis)
 
 // Whether no point's line has its bit set.
 fn none_set(map: &[u64], points: &[Point], axis: Axis) -> bool
-    ensures { result ≡ every (λ p. not (bit_at map.now (line_place axis p))) points.now }
+    ensures { result ≡ list_all (λ p. not (bit_at map.now (line_place axis p))) points.now }
 {
-    for point in points {
-        if is_set(map, line_of(*point, axis)) {
-            return false;
-        }
-    }
-    true
+    points
+        .iter()
+        .all(|point| !is_set(map, line_of(*point, axis)))
 }
 
 // Whether every line along an axis carries an even number of the points.

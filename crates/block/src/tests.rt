@@ -1,6 +1,6 @@
 // Blocks of a few corners, worked out by hand.
 use crate::block::OpenBlock;
-use crate::check::list_refusal;
+use crate::check::check_list;
 use body::body::Body;
 use body::corners::corners;
 use geometry::axis::Axis;
@@ -14,10 +14,9 @@ fn point(x: u16, y: u16, z: u16) -> Point {
 
 // The number of the refusal of a list in a 4 x 4 x 4 frame, or 0.
 fn refused(points: &[Point], count: usize) -> Result<u8, Refusal> {
-    Ok(match list_refusal(Frame::new(4, 4, 4)?, points, count) {
-        Some(refusal) => refusal.number(),
-        None => 0,
-    })
+    let frame = Frame::new(4, 4, 4)?;
+    let refusal = check_list(frame, points, count).err();
+    Ok(refusal.map_or(0, |refusal| refusal.number()))
 }
 
 #[test]

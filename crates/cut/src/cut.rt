@@ -13,6 +13,7 @@ pub mod make;
 
 // A body that has been cut, with the order and the number of its boxes. It holds the body until it is
 // reopened.
+#[derive(Drop)]
 pub struct Cut<B> {
     body: B,
     order: AxisOrder,
@@ -65,11 +66,6 @@ impl<B> Cut<B> {
     pub fn reopen(self) -> B
         ensures { result ≡ self.body }
     {
-        let Cut {
-            body,
-            order: _,
-            count: _,
-        } = self;
-        body
+        self.body
     }
 }

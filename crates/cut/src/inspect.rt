@@ -11,7 +11,7 @@ use geometry::axis::AxisOrder;
 use geometry::refusal::Refusal;
 
 // The number of boxes of a body, and the cells in them.
-#[derive(Clone, Copy)]
+#[derive(Clone, Copy, PartialEq, Eq, Debug)]
 pub struct Inspection {
     pub boxes: usize,
     pub volume: u64,
@@ -33,10 +33,7 @@ pub fn inspect<B: Body>(
             let boxes = standing.count();
             let measured = standing.volume(table);
             let body = standing.reopen();
-            match measured {
-                Ok(volume) => (body, Ok(Inspection { boxes, volume })),
-                Err(refusal) => (body, Err(refusal)),
-            }
+            (body, measured.map(|volume| Inspection { boxes, volume }))
         }
         Err((body, refusal)) => (body, Err(refusal)),
     }

@@ -1,6 +1,6 @@
 -- What the exported functions answer and leave.
 use Rattle.std.specs.Prelude.{ℕ, zero, suc, cond, List, length, Some, None, Ok, Err, Option, Result, nat_le}
-use Rattle.geometry.specs.Frames.{sides, sides_given, sides_ok}
+use Rattle.geometry.specs.Frames.{sides_given, sides_ok}
 use Rattle.geometry.specs.Refusals.{number_of}
 use Rattle.geometry.specs.declared.axis.AxisOrder.{AxisOrder}
 use Rattle.geometry.specs.declared.axis.AxisOrder.TheVariants.{Xyz, Xzy, Yxz, Yzx, Zxy, Zyx}
@@ -8,7 +8,6 @@ use Rattle.geometry.specs.declared.refusal.Refusal.{Refusal}
 use Rattle.geometry.specs.declared.refusal.Refusal.TheVariants.{FrameSide, GridWords}
 use Rattle.body.specs.Grids.{packed, words_needed}
 use Rattle.body.specs.Solids.{Solid}
-use Rattle.body.specs.declared.grid.PackedGrid.{PackedGrid}
 use Rattle.boxes.specs.Records.{cut_outcome}
 use Rattle.boxes.specs.declared.record.BoxRecord.{BoxRecord}
 use Rattle.exports.specs.declared.answer.Answer.{Answer}
@@ -36,11 +35,6 @@ no_order = record { refusal = 255; number = 0 }
 -- the solid of the packed grid with these sides and words, or the refusal of one of them
 abbrev pub grid_given : ℕ → ℕ → ℕ → List ℕ → Result Solid Refusal
 grid_given x y z words = cond (sides_ok x y z) (cond (nat_le (words_needed (sides_given x y z)) (length words)) (Ok (packed (sides_given x y z) words)) (Err GridWords)) (Err FrameSide)
-
--- the solid of a grid that was made, or the refusal
-abbrev pub meant : Result PackedGrid Refusal → Result Solid Refusal
-meant (Ok g) = Ok (packed (sides g.frame) g.words.now)
-meant (Err r) = Err r
 
 -- an answer, and the table behind it
 pub record Outcome : Type 0 where

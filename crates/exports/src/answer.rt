@@ -15,25 +15,29 @@ pub struct Answer {
 // In place of a refusal's number, where the number of an order names none.
 const NO_ORDER: u8 = 255;
 
-// The answer that an order's number names none.
-pub(crate) fn without_order() -> Answer
-    ensures { result ≡ no_order }
-{
-    Answer {
-        refusal: NO_ORDER,
-        number: 0,
+impl Answer {
+    // The answer that an order's number names none.
+    pub(crate) fn without_order() -> Answer
+        ensures { result ≡ no_order }
+    {
+        Answer {
+            refusal: NO_ORDER,
+            number: 0,
+        }
     }
 }
 
 // A number or a refusal as an answer.
-pub(crate) fn answered(res: Result<u64, Refusal>) -> Answer
-    ensures { result ≡ answer_of res }
-{
-    match res {
-        Ok(number) => Answer { refusal: 0, number },
-        Err(refusal) => Answer {
-            refusal: refusal.number(),
-            number: 0,
-        },
+impl From<Result<u64, Refusal>> for Answer {
+    ghost from_gives = { λ res answer. answer ≡ answer_of res };
+
+    fn from(res: Result<u64, Refusal>) -> Answer {
+        match res {
+            Ok(number) => Answer { refusal: 0, number },
+            Err(refusal) => Answer {
+                refusal: refusal.number(),
+                number: 0,
+            },
+        }
     }
 }

@@ -19,6 +19,7 @@ pub fn cut<B: Body>(
     ensures lawful { LawfulCut (B.meaning body) order }
     ensures outcome { elim result [ Ok k ↦ (record { answer = Ok k.count; table = table.new } ≡ cut_outcome (B.meaning body) order table.old) × (k.body ≡ body) × (k.order ≡ order) | Err p ↦ (record { answer = Err p.1; table = table.new } ≡ cut_outcome (B.meaning body) order table.old) × (p.0 ≡ body) ] }
 {
+    // not by ok_or: the body goes into the cut, or back to the caller beside the refusal
     match write_boxes(&body, order, table) {
         Some(count) => Ok(Cut { body, order, count }),
         None => Err((body, Refusal::BoxesFull)),

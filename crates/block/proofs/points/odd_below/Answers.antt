@@ -1,17 +1,11 @@
-use Rattle.std.proofs.Common.{ap, ◌∙◌}
+use Rattle.std.proofs.Common.{◌≡◌, ◌∙◌, ◌%◌, ap, nat_eq, rules}
+use Rattle.std.specs.List.{count_by}
 use Rattle.body.specs.Corners.{at_or_below}
-use Rattle.body.specs.Solids.{differ}
-use Rattle.block.proofs.Folds.{parity_end, parity_on, xor_differ}
+use Rattle.block.proofs.Folds.{odd_parity}
 use Rattle.block.proofs.points.odd_below.Goals as goal
-
-pub loop-point-preserved : goal.loop-point-preserved
-loop-point-preserved c =
-    let cell = c.args.cell in
-    let odd = c.loop-point.odd in
-    parity_on (at_or_below cell.x cell.y cell.z) c.args.points.now c.loop-point.point-index _ odd _ _ c.loop-point-test.true c.loop-point.invariant
-    (xor_differ odd c.is_below-odd.result ∙ ap (differ odd) c.is_below-odd.ensures)
 
 pub returns : goal.returns
 returns c =
-    let cell = c.args.cell in
-    parity_end (at_or_below cell.x cell.y cell.z) c.args.points.now c.loop-point.point-index c.loop-point.odd _ c.loop-point-test.false c.loop-point.invariant
+    let Q = at_or_below c.args.cell.x c.args.cell.y c.args.cell.z in
+    let counted : c.count.result ≡ count_by Q c.args.points.now = search rules in
+    ap (λ n. nat_eq (n % 2) 1) counted ∙ odd_parity Q c.args.points.now
