@@ -1,36 +1,60 @@
-use Rattle.std.proofs.Common.{cond, sym, refl, ap, ◌∙◌, arith}
-use Rattle.script.specs.Scripts.{free, standing, state_of, world}
-use Rattle.script.proofs.Running.{ends_first, runs_more, runs_reopened}
+use Rattle.std.proofs.Common.{◌≡◌, true, false, ◌∷◌, cond, sym, ap, ◌∙◌, arith, rules}
+use Rattle.std.proofs.lemmas.List.{nil_from_length}
+use Rattle.script.specs.Scripts.{ends, free, question_reply, reopens, reply_of, standing, state_of, told, world}
+use Rattle.script.proofs.Running.{runs_more, runs_reopened}
 use Rattle.script.proofs.standing.while_standing.Goals as goal
+use Rattle.script.proofs.standing.while_standing.Goals.{in-Some+in-Make, in_default}
 
-pub standing_step-requires : goal.standing_step-requires
-standing_step-requires g c =
-    sym (ends_first c.args.calls.now c.loop-context.at c.index-calls-at.result (c.loop-context-test.ensures.within refl) c.index-calls-at.is) ∙ sym c.loop-context-test.ensures.ends
+pub returns-then-eq-clause-went : goal.returns-then-eq-clause-went
+returns-then-eq-clause-went g c = λ m h.
+    let up = standing m c.args.standing.now.order c.args.standing.now.count in
+    let s = state_of c.loop-call.context in
+    let back : reopens c.in-OnCut.call ≡ true = search rules in
+    let said : reply_of c.question-answer.result ≡ question_reply s.boxes c.args.standing.now.order c.args.standing.now.count c.in-OnCut.call = search rules in
+    c.loop-call.invariant.went m h
+    ∙ runs_more (world h up (state_of c.loop-call.context)) c.in-Some.ensures.cases.0 c.in-OnCut.is ((λ i. world h (cond (back i) (free m) up) (told s (sym said i))) ∙ ap (world h (free m)) (sym c.in_ok-tell-in-OnCut.ensures))
 
-pub returns-then-reopened : goal.returns-then-reopened
-returns-then-reopened g c = record {
-  forth = omega (arith, c.loop-context.invariant.0);
+pub loop-call-preserved-in_ok-set_table-in-SetTable : goal.loop-call-preserved-in_ok-set_table-in-SetTable
+loop-call-preserved-in_ok-set_table-in-SetTable g c = record {
+  fewer = omega (arith, c.in-Some.ensures.cases.1);
   went = λ m h.
       let up = standing m c.args.standing.now.order c.args.standing.now.count in
-      let after = state_of c.standing_step.new.context in
-      c.loop-context.invariant.1 m h
-      ∙ runs_more c.args.calls.now c.loop-context.at c.index-calls-at.result (c.loop-context-test.ensures.within refl) c.index-calls-at.is (world h up (state_of c.loop-context.context)) (world h (free m) after)
-      (c.in_ok-reopened.ensures m h ∙ ap (λ b. world h (cond b (free m) up) after) c.if-reopened.true);
+      c.loop-call.invariant.went m h ∙ runs_more (world h up (state_of c.loop-call.context)) c.in-Some.ensures.cases.0 c.in-SetTable.is (ap (world h up) (sym c.in_ok-set_table-in-SetTable.ensures));
 }
 
-pub loop-context-preserved : goal.loop-context-preserved
-loop-context-preserved g c = (
-  omega (arith, c.loop-context.invariant.0),
-  λ m h.
+pub loop-call-preserved-in_ok-tell-in-OnBlock : goal.loop-call-preserved-in_ok-tell-in-OnBlock
+loop-call-preserved-in_ok-tell-in-OnBlock g c = record {
+  fewer = omega (arith, c.in-Some.ensures.cases.1);
+  went = λ m h.
       let up = standing m c.args.standing.now.order c.args.standing.now.count in
-      let after = state_of c.standing_step.new.context in
-      c.loop-context.invariant.1 m h
-      ∙ runs_more c.args.calls.now c.loop-context.at c.index-calls-at.result (c.loop-context-test.ensures.within refl) c.index-calls-at.is (world h up (state_of c.loop-context.context)) (world h up after)
-      (c.in_ok-reopened.ensures m h ∙ ap (λ b. world h (cond b (free m) up) after) c.if-reopened.false),
-)
-
-pub returns : goal.returns
-returns g c = record {
-  forth = c.loop-context.invariant.0;
-  went = λ m h. c.loop-context.invariant.1 m h ∙ runs_reopened h m c.args.standing.now.order c.args.standing.now.count (state_of c.loop-context.context) _ (sym c.loop-context-test.ensures.ends);
+      c.loop-call.invariant.went m h ∙ runs_more (world h up (state_of c.loop-call.context)) c.in-Some.ensures.cases.0 c.in-OnBlock.is (ap (world h up) (sym c.in_ok-tell-in-OnBlock.ensures));
 }
+
+pub loop-call-preserved-in_ok-tell-in-Cut : goal.loop-call-preserved-in_ok-tell-in-Cut
+loop-call-preserved-in_ok-tell-in-Cut g c = record {
+  fewer = omega (arith, c.in-Some.ensures.cases.1);
+  went = λ m h.
+      let up = standing m c.args.standing.now.order c.args.standing.now.count in
+      c.loop-call.invariant.went m h ∙ runs_more (world h up (state_of c.loop-call.context)) c.in-Some.ensures.cases.0 c.in-Cut.is (ap (world h up) (sym c.in_ok-tell-in-Cut.ensures));
+}
+
+pub loop-call-preserved : goal.loop-call-preserved
+loop-call-preserved g c = record {
+  fewer = omega (arith, c.in-Some.ensures.cases.1);
+  went = λ m h.
+      let up = standing m c.args.standing.now.order c.args.standing.now.count in
+      let s = state_of c.loop-call.context in
+      let on : reopens c.in-OnCut.call ≡ false = search rules in
+      let said : reply_of c.question-answer.result ≡ question_reply s.boxes c.args.standing.now.order c.args.standing.now.count c.in-OnCut.call = search rules in
+      c.loop-call.invariant.went m h
+      ∙ runs_more (world h up (state_of c.loop-call.context)) c.in-Some.ensures.cases.0 c.in-OnCut.is ((λ i. world h (cond (on i) (free m) up) (told s (sym said i))) ∙ ap (world h up) (sym c.in_ok-tell-in-OnCut.ensures));
+}
+
+pub returns-clause-went : goal.returns-clause-went
+returns-clause-went g c = λ m h.
+    let end : ends c.loop-call.left.now ≡ true =
+    elim c.match-split_first.branch [
+      | in-Some+in-Make w ↦ ap ends w.in-Some.ensures.cases.0 ∙ ap (λ d. ends (d ∷ w.in-Some.rest.now)) w.in-Make.is
+      | in_default w ↦ ap ends (nil_from_length _ w.in_default.ensures.cases)
+    ] in
+    c.loop-call.invariant.went m h ∙ runs_reopened h m _ _ _ c.loop-call.left.now end
