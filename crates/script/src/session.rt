@@ -161,6 +161,7 @@ fn block_size(block: Option<PackedGrid<'_>>) -> Option<BlockSize>
 }
 
 // Makes the calls of a script one after the other. A plain script does what is said of plain scripts.
+#[tactic(auto, unfolding(crate::specs::Scripts::runs))]
 pub fn run(heap: Global, calls: &[Call]) -> Result<Report, AllocError>
     ensures answers { IfOk result (λ p. map reply_of p.answers.items ≡ (ran calls.now).state.replies) }
     ensures blocks { IfOk result (λ p. p.blocks ≡ (ran calls.now).home.blocks) }

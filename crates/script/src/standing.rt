@@ -49,6 +49,7 @@ fn question<B>(standing: &Cut<B>, boxes: &[BoxRecord], call: CutCall) -> Answer
 
 // Makes calls until the cut is reopened, a call makes a frame or a block, or there is none left;
 // gives the calls that are left.
+#[tactic(auto, unfolding(crate::specs::Scripts::runs))]
 pub(crate) fn while_standing<'a, B>(
     standing: &Cut<B>,
     calls: &'a [Call],
