@@ -1,6 +1,6 @@
 -- What a call answered that writes a list to the front of a table, and what stands there then.
-use Rattle.std.proofs.Common.{◌≡◌, ℕ, ◌-◌, ◌<◌, ◌≤◌, min, Bool, true, false, cond, leb, List, length, take, Ok, Err, Result, sym, refl, ap, ◌∙◌, inl, inr, arith, length-take, take_all}
-use Rattle.std.proofs.lemmas.Bool.{cases_lt, leb-false, leb-true}
+use Rattle.std.proofs.Common.{◌≡◌, ℕ, ◌<◌, ◌≤◌, min, Bool, true, false, cond, leb, List, length, take, Ok, Err, Result, sym, refl, ap, ◌∙◌, arith, length-take, take_all}
+use Rattle.std.proofs.lemmas.Bool.{leb-false, leb-true}
 use Rattle.geometry.specs.declared.axis.AxisOrder.{AxisOrder}
 use Rattle.geometry.specs.declared.frame.Point.{Point}
 use Rattle.geometry.specs.declared.refusal.Refusal.{Refusal}

@@ -67,6 +67,7 @@ impl Context {
     }
 
     // Sets the length of a table. Boxes that stay keep their content.
+    #[tactic(auto, unfolding(crate::specs::Scripts::blanks))]
     pub(crate) fn set_table(&mut self, table: Table, length: usize) -> Result<(), AllocError>
         ensures { OnOk result (state_of self.new ≡ resized (state_of self.old) table length) }
     {

@@ -19,7 +19,7 @@ use std::alloc::{AllocError, Global};
 
 // The frame and the block in force, and how many blocks were read.
 #[derive(Clone, Copy)]
-pub struct Session<'a> {
+struct Session<'a> {
     frame: Option<Frame>,
     block: Option<PackedGrid<'a>>,
     blocks: usize,
@@ -88,12 +88,12 @@ impl<'a> Session<'a> {
 
     // Cuts the block, where there is one, and makes calls while the cut stands; gives the calls that
     // are left.
-    fn cut<'b>(
+    fn cut(
         &self,
         order: AxisOrder,
-        calls: &'b [Call],
+        calls: &'a [Call],
         context: &mut Context,
-    ) -> Result<&'b [Call], AllocError>
+    ) -> Result<&'a [Call], AllocError>
         ensures fewer { IfOk result (λ left. length left.now ≤ length calls.now) }
         ensures went { IfOk result (λ left. (h : Home) → runs (cut_step h (held_of self.now) (state_of context.old) order) calls.now ≡ runs (world h (held_of self.now) (state_of context.new)) left.now) }
     {
@@ -139,7 +139,7 @@ pub struct Report {
 }
 
 // The sides of a block, and how many of its cells are solid.
-#[derive(Clone, Copy)]
+#[derive(Clone, Copy, PartialEq, Eq, Debug)]
 pub struct BlockSize {
     pub x: u16,
     pub y: u16,

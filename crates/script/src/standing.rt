@@ -15,6 +15,7 @@ use std::alloc::AllocError;
 const FARTHEST: u64 = 65535;
 
 // Finds the box of a cell with any numbers.
+#[tactic(auto, using(crate::proofs::Far::find_far))]
 fn find_far<B>(
     standing: &Cut<B>,
     boxes: &[BoxRecord],
