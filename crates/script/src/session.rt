@@ -5,7 +5,7 @@ ghost use Rattle.boxes.specs.Laws.{LawfulCut};
 ghost use Rattle.geometry.specs.Frames.{sides};
 ghost use Rattle.geometry.specs.declared.axis.AxisOrder.{AxisOrder};
 ghost use Rattle.script.specs.Plain.{PlainCall, blocks_read, call_of, replies, start, steps};
-ghost use Rattle.script.specs.Scripts.{Home, block_of, block_step, cut_step, frame_reply, grid_of, grid_reply, held_of, home_of, made_held, made_home, made_reply, new_frame, new_grid, ran, reply_of, runs, size_of, state_of, step, world};
+ghost use Rattle.script.specs.Scripts.{Home, block_of, block_step, cut_step, frame_reply, grid_of, grid_reply, held_of, home_of, new_frame, new_grid, ran, reply_of, runs, size_of, state_of, step, world};
 ghost use Rattle.std.specs.Option.{option_map};
 
 use crate::block::{ask_block, cut_block};
@@ -62,20 +62,6 @@ impl<'a> Session<'a> {
         }
     }
 
-    // Makes a frame or a block; gives the answer, if there is one.
-    fn make(&mut self, call: &'a MakeCall) -> Option<Answer>
-        requires { self.old.blocks + 1 < 2 ^ 64 }
-        ensures home { home_of self.new ≡ made_home (home_of self.old) call.now }
-        ensures held { held_of self.new ≡ made_held (home_of self.old) call.now }
-        ensures answer { option_map reply_of result ≡ made_reply (home_of self.old) call.now }
-        ensures bound { self.new.blocks ≤ self.old.blocks + 1 }
-    {
-        match call {
-            MakeCall::Frame(x, y, z) => self.make_frame(*x, *y, *z),
-            MakeCall::Grid(words) => self.make_grid(words.as_slice()),
-        }
-    }
-
     // Makes a call on the block, where there is one.
     fn ask(&self, call: BlockCall, context: &mut Context) -> Result<(), AllocError>
         ensures { OnOk result ((h : Home) → block_step h (held_of self.now) (state_of context.old) call ≡ world h (held_of self.now) (state_of context.new)) }
@@ -120,7 +106,12 @@ impl<'a> Session<'a> {
         ensures went { IfOk result (λ left. runs (step (world (home_of self.old) (held_of self.old) (state_of context.old)) call.now) rest.now ≡ runs (world (home_of self.new) (held_of self.new) (state_of context.new)) left.now) }
     {
         match call {
-            Call::Make(make) => context.tell_if(self.make(make))?,
+            Call::Make(MakeCall::Frame(x, y, z)) => {
+                context.tell_if(self.make_frame(*x, *y, *z))?;
+            }
+            Call::Make(MakeCall::Grid(words)) => {
+                context.tell_if(self.make_grid(words.as_slice()))?;
+            }
             Call::SetTable(table, length) => context.set_table(*table, *length)?,
             Call::OnBlock(call) => self.ask(*call, context)?,
             Call::Cut(order) => return self.cut(*order, rest, context),
