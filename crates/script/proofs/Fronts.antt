@@ -1,6 +1,6 @@
 -- What a call answered that writes a list to the front of a table, and what stands there then.
-use Rattle.std.proofs.Common.{◌≡◌, ℕ, ◌-◌, ◌<◌, ◌≤◌, min, Bool, true, false, cond, leb, List, length, take, Ok, Err, Result, sym, refl, ap, ◌∙◌, inl, inr, arith, length-take, take_all}
-use Rattle.std.proofs.lemmas.Bool.{cases_lt, leb-false, leb-true}
+use Rattle.std.proofs.Common.{◌≡◌, ℕ, ◌<◌, ◌≤◌, min, Bool, true, false, cond, leb, List, length, take, Ok, Err, Result, sym, refl, ap, ◌∙◌, arith, length-take, take_all}
+use Rattle.std.proofs.lemmas.Bool.{leb-false, leb-true}
 use Rattle.geometry.specs.declared.axis.AxisOrder.{AxisOrder}
 use Rattle.geometry.specs.declared.frame.Point.{Point}
 use Rattle.geometry.specs.declared.refusal.Refusal.{Refusal}
@@ -14,10 +14,6 @@ use Rattle.boxes.specs.declared.record.BoxRecord.{BoxRecord}
 use Rattle.script.specs.Scripts.{Home, State, boxed, corners_reply, cut_held, cut_reply, cut_step, free, listed, overfull, refused, standing, told, with_boxes, world}
 use Rattle.script.specs.declared.call.BlockCall.TheVariants.{Corners}
 use Rattle.script.specs.declared.call.CallName.TheVariants as names
-
--- a front that is cut off at the list's end is as good
-pub take_clipped : {A : Type 0} (xs : List A) (n k : ℕ) → k ≡ min n (length xs) → take (k - 0) xs ≡ take n xs
-take_clipped xs n k e = elim (cases_lt n (length xs)) [ inl h ↦ ap (λ j. take j xs) (omega arith) | inr h ↦ take_all (k - 0) xs (omega arith) ∙ sym (take_all n xs h) ]
 
 -- a list that was granted when it fits, and refused with `full` otherwise
 module _ {A : Type 0} (l table after : List A) (answer : Result ℕ Refusal) (full : Refusal) (answered : answer ≡ cond (leb (length l) (capacity table)) (Ok (length l)) (Err full)) (left : after ≡ overlay (take (capacity table) l) table) where
@@ -33,8 +29,7 @@ module _ {A : Type 0} (l table after : List A) (answer : Result ℕ Refusal) (fu
           (t, ap (λ k. take k after) same ∙ ap (take (length l)) (left ∙ ap (λ f. overlay f table) whole) ∙ take_overlay l table (omega arith))
       go false t =
           let is : ◌≡◌ {A = Result ℕ Refusal} (Ok n) (Err full) = sym ok ∙ answered ∙ ap (λ b. cond b (Ok (length l)) (Err full)) t in
-          let z : ◌≡◌ {A = ℕ} 0 1 = cc in
-          absurd (omega arith)
+          absurd cc
 
   pub refused_front : (e : Refusal) → answer ≡ Err e → (leb (length l) (capacity table) ≡ false) × (e ≡ full) × (take (capacity table) after ≡ take (capacity table) l)
   refused_front e err = go (leb (length l) (capacity table)) refl
@@ -42,8 +37,7 @@ module _ {A : Type 0} (l table after : List A) (answer : Result ℕ Refusal) (fu
       go : (b : Bool) → leb (length l) (capacity table) ≡ b → (leb (length l) (capacity table) ≡ false) × (e ≡ full) × (take (capacity table) after ≡ take (capacity table) l)
       go true t =
           let is : ◌≡◌ {A = Result ℕ Refusal} (Err e) (Ok (length l)) = sym err ∙ answered ∙ ap (λ b. cond b (Ok (length l)) (Err full)) t in
-          let z : ◌≡◌ {A = ℕ} 0 1 = cc in
-          absurd (omega arith)
+          absurd cc
       go false t =
           let is : ◌≡◌ {A = Result ℕ Refusal} (Err e) (Err full) = sym err ∙ answered ∙ ap (λ b. cond b (Ok (length l)) (Err full)) t in
           let same : e ≡ full = cc in

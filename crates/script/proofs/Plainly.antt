@@ -1,5 +1,5 @@
 -- What a plain script does and replies by itself is what it does and replies as a script.
-use Rattle.std.proofs.Common.{◌≡◌, ℕ, ◌+◌, List, [], ◌∷◌, ◌++◌, map, Some, None, vec_items, Option, sym, refl, ap, ap₂, ◌∙◌, add-zero, zero-add, add_assoc}
+use Rattle.std.proofs.Common.{◌≡◌, ℕ, ◌+◌, List, [], ◌∷◌, ◌++◌, map, Some, None, vec_items, Option, refl, ap, ap₂, ◌∙◌, add-zero, zero-add, add_assoc}
 use Rattle.std.proofs.lemmas.List.{append_assoc, append-nil}
 use Rattle.std.specs.Option.{option_to_list}
 use Rattle.body.specs.Solids.{Solid}
@@ -13,7 +13,7 @@ abbrev worldly : State → ℕ → List BoxRecord → List Reply → World
 worldly s b l rs = world (record { frame = s.frame; blocks = b }) (block_held s.block) (record { corners = s.table; boxes = l; replies = rs })
 
 told_is : (n : ℕ) (l : List BoxRecord) (rs : List Reply) (r : Option Reply) → told_if (record { corners = n; boxes = l; replies = rs }) r ≡ record { corners = n; boxes = l; replies = rs ++ option_to_list r }
-told_is n l rs None = ap (λ (x : List Reply). record { corners = n; boxes = l; replies = x }) (sym (append-nil rs))
+told_is n l rs None = simp append-nil
 told_is n l rs (Some r) = refl
 
 held_again : (o : Option Solid) → block_held (block_of (block_held o)) ≡ block_held o
@@ -22,28 +22,24 @@ held_again (Some m) = refl
 
 module _ (l : List BoxRecord) where
   one_call : (s : State) (b : ℕ) (rs : List Reply) (c : PlainCall) → scripts.step (worldly s b l rs) (call_of c) ≡ worldly (step s c) (b + block_read s c) l (rs ++ option_to_list (reply s c))
-  one_call s b rs (frame x y z) =
-      ap₂ (λ (n : ℕ) (t : scripts.State). world (record { frame = new_frame x y z; blocks = n }) (block_held None) t) (sym (add-zero b)) (told_is s.table l rs (frame_reply x y z))
-  one_call s b rs (corner_table n) =
-      ap₂ (λ (k : ℕ) (x : List Reply). worldly (record { frame = s.frame; block = s.block; table = n }) k l x) (sym (add-zero b)) (sym (append-nil rs))
+  one_call s b rs (frame x y z) = simp add-zero (ap (world (record { frame = new_frame x y z; blocks = b }) (block_held None)) (told_is s.table l rs (frame_reply x y z)))
+  one_call s b rs (corner_table n) = simp (add-zero, append-nil)
   one_call s b rs (grid words) =
       ap (world (record { frame = s.frame; blocks = b + block_read s (grid words) }) (block_held (new_grid s.frame (vec_items words)))) (told_is s.table l rs (grid_reply s.frame (vec_items words)))
   one_call s b rs count = asked s.block
     where
       asked : (o : Option Solid) → scripts.step (worldly (record { frame = s.frame; block = o; table = s.table }) b l rs) (call_of count) ≡ worldly (record { frame = s.frame; block = o; table = s.table }) (b + 0) l (rs ++ option_to_list (reply (record { frame = s.frame; block = o; table = s.table }) count))
-      asked None = ap (λ (k : ℕ). worldly (record { frame = s.frame; block = None; table = s.table }) k l (rs ++ option_to_list (reply (record { frame = s.frame; block = None; table = s.table }) count))) (sym (add-zero b))
-      asked (Some m) = ap (λ (k : ℕ). worldly (record { frame = s.frame; block = Some m; table = s.table }) k l (rs ++ option_to_list (reply (record { frame = s.frame; block = Some m; table = s.table }) count))) (sym (add-zero b))
+      asked None = simp add-zero
+      asked (Some m) = simp add-zero
   one_call s b rs corners = asked s.block
     where
       asked : (o : Option Solid) → scripts.step (worldly (record { frame = s.frame; block = o; table = s.table }) b l rs) (call_of corners) ≡ worldly (record { frame = s.frame; block = o; table = s.table }) (b + 0) l (rs ++ option_to_list (reply (record { frame = s.frame; block = o; table = s.table }) corners))
-      asked None = ap (λ (k : ℕ). worldly (record { frame = s.frame; block = None; table = s.table }) k l (rs ++ option_to_list (reply (record { frame = s.frame; block = None; table = s.table }) corners))) (sym (add-zero b))
-      asked (Some m) = ap (λ (k : ℕ). worldly (record { frame = s.frame; block = Some m; table = s.table }) k l (rs ++ option_to_list (reply (record { frame = s.frame; block = Some m; table = s.table }) corners))) (sym (add-zero b))
+      asked None = simp add-zero
+      asked (Some m) = simp add-zero
 
   all_calls : (s : State) (b : ℕ) (rs : List Reply) (cs : List PlainCall) → runs (worldly s b l rs) (map call_of cs) ≡ worldly (steps s cs) (b + blocks_read s cs) l (rs ++ replies s cs)
   unfolding runs
-  all_calls s b rs [] =
-      ap (λ h. world (record { frame = s.frame; blocks = b }) h (record { corners = s.table; boxes = l; replies = rs })) (held_again s.block)
-      ∙ ap₂ (λ (k : ℕ) (x : List Reply). worldly s k l x) (sym (add-zero b)) (sym (append-nil rs))
+  all_calls s b rs [] = simp (add-zero, append-nil) (ap (λ h. world (record { frame = s.frame; blocks = b }) h (record { corners = s.table; boxes = l; replies = rs })) (held_again s.block))
   all_calls s b rs (c ∷ cs) =
       ap (λ w. runs w (map call_of cs)) (one_call s b rs c)
       ∙ all_calls (step s c) (b + block_read s c) (rs ++ option_to_list (reply s c)) cs

@@ -255,15 +255,6 @@ home_of s = record { frame = option_map sides s.frame; blocks = s.blocks }
 abbrev pub held_of : Session → Held
 held_of s = block_held (option_map grid_of s.block)
 
--- the next call makes a frame or a block, or there is none
-abbrev pub ends : List Call → Bool
-ends [] = true
-ends (Make c ∷ cs) = true
-ends (SetTable t n ∷ cs) = false
-ends (OnBlock c ∷ cs) = false
-ends (Cut o ∷ cs) = false
-ends (OnCut c ∷ cs) = false
-
 -- the sides of a block, and its number of solid cells
 abbrev pub size_of : Solid → BlockSize
 size_of m = record { x = m.side X; y = m.side Y; z = m.side Z; solid = solid_cells m }

@@ -6,7 +6,7 @@ use geometry::axis::AxisOrder;
 use geometry::frame::Point;
 use geometry::refusal::Refusal;
 
-#[derive(PartialEq, Debug, Drop)]
+#[derive(PartialEq, Eq, Debug, Drop)]
 pub enum Call {
     // makes a frame or a block
     Make(MakeCall),
@@ -20,7 +20,7 @@ pub enum Call {
     OnCut(CutCall),
 }
 
-#[derive(PartialEq, Debug, Drop)]
+#[derive(PartialEq, Eq, Debug, Drop)]
 pub enum MakeCall {
     // makes a frame with these sides
     Frame(u64, u64, u64),

@@ -1,20 +1,25 @@
 // The tables of a script, and the answers so far.
-ghost use Rattle.std.specs.Prelude.{◌≡◌, IfOk, OnOk};
-ghost use Rattle.script.specs.Scripts.{begun, blank, reply_of, resized, state_of, told, told_if};
+ghost use Rattle.std.specs.Prelude.{◌≡◌, min, take, IfOk, OnOk};
 ghost use Rattle.std.specs.Option.{option_map};
+ghost use Rattle.script.specs.Scripts.{begun, blank, overfull, reply_of, resized, state_of, told, told_if};
+ghost use Rattle.tables.specs.Tables.{capacity};
 
 use crate::call::{Answer, Table};
 use boxes::record::BoxRecord;
+use geometry::axis::AxisOrder;
 use geometry::cuboid::Cuboid;
 use geometry::frame::Point;
+use geometry::refusal::Refusal;
 use std::alloc::{AllocError, Global};
+use tables::listing::CAPACITY;
 
 // The lengths of the tables before a call sets them.
 const TABLE_LENGTH: usize = 65536;
 
-// The length of the corner table, the box table, and the answers so far.
+// The length of the corner table, the box table, and the answers so far, which lie on the heap.
 #[derive(Drop)]
 pub struct Context {
+    pub heap: Global,
     pub corner_table: usize,
     pub boxes: Vec<BoxRecord>,
     pub answers: Vec<Answer>,
@@ -34,9 +39,9 @@ impl Context {
     pub(crate) fn new(heap: Global) -> Result<Context, AllocError>
         ensures { IfOk result (λ c. state_of c ≡ begun) }
     {
-        let blank = blank_record();
-        let boxes = vec![in heap; blank; TABLE_LENGTH]?;
+        let boxes = vec![in heap; blank_record(); TABLE_LENGTH]?;
         Ok(Context {
+            heap,
             corner_table: TABLE_LENGTH,
             boxes,
             answers: Vec::new(heap),
@@ -55,26 +60,28 @@ impl Context {
     pub(crate) fn tell_if(&mut self, answer: Option<Answer>) -> Result<(), AllocError>
         ensures { OnOk result (state_of self.new ≡ told_if (state_of self.old) (option_map reply_of answer)) }
     {
-        match answer {
-            Some(answer) => self.tell(answer),
-            None => Ok(()),
+        if let Some(answer) = answer {
+            self.tell(answer)?;
         }
+        Ok(())
     }
 
     // Sets the length of a table. Boxes that stay keep their content.
+    #[tactic(auto, unfolding(crate::specs::Scripts::blanks))]
     pub(crate) fn set_table(&mut self, table: Table, length: usize) -> Result<(), AllocError>
         ensures { OnOk result (state_of self.new ≡ resized (state_of self.old) table length) }
     {
         match table {
-            Table::Corners => {
-                self.corner_table = length;
-                Ok(())
-            }
-            Table::Boxes => {
-                let blank = blank_record();
-                self.boxes.resize(length, blank)?;
-                Ok(())
-            }
+            Table::Corners => self.corner_table = length,
+            Table::Boxes => self.boxes.resize(length, blank_record())?,
         }
+        Ok(())
+    }
+
+    // The first boxes of the table, no more than a number.
+    pub(crate) fn first_boxes(&self, most: usize) -> Result<Vec<BoxRecord>, AllocError>
+        ensures { IfOk result (λ v. v.items ≡ take most self.now.boxes.items) }
+    {
+        self.boxes.iter().take(most).copied().collect(self.heap)
     }
 }

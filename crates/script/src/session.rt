@@ -1,161 +1,124 @@
 // The run of a whole script.
-ghost use Rattle.std.specs.Prelude.{◌≡◌, ◌+◌, ◌<◌, ◌≤◌, false, List, [], ◌∷◌, map, length, drop, is_some, IfOk, OnOk};
+ghost use Rattle.std.specs.Prelude.{◌≡◌, ◌+◌, ◌<◌, ◌≤◌, ◌^◌, List, map, length, is_some, IfOk, OnOk};
 ghost use Rattle.body.specs.Solids.{Inside, Small, Solid, one};
 ghost use Rattle.boxes.specs.Laws.{LawfulCut};
 ghost use Rattle.geometry.specs.Frames.{sides};
 ghost use Rattle.geometry.specs.declared.axis.AxisOrder.{AxisOrder};
 ghost use Rattle.script.specs.Plain.{PlainCall, blocks_read, call_of, replies, start, steps};
-ghost use Rattle.script.specs.Scripts.{Home, block_of, ends, frame_reply, grid_of, grid_reply, held_of, home_of, made_held, made_home, made_reply, new_frame, new_grid, nothing, ran, reply_of, runs, size_of, state_of, step, world};
+ghost use Rattle.script.specs.Scripts.{Home, block_of, block_step, cut_step, frame_reply, grid_of, grid_reply, held_of, home_of, new_frame, new_grid, ran, reply_of, runs, size_of, state_of, step, world};
 ghost use Rattle.std.specs.Option.{option_map};
 
-use crate::block::while_held;
-use crate::call::{Answer, Call, CallName, MakeCall};
+use crate::block::{ask_block, cut_block};
+use crate::call::{Answer, BlockCall, Call, CallName, MakeCall};
 use crate::context::Context;
 use body::body::Body;
 use body::grid::PackedGrid;
-use geometry::axis::Axis;
+use geometry::axis::{Axis, AxisOrder};
 use geometry::frame::Frame;
 use std::alloc::{AllocError, Global};
 
 // The frame and the block in force, and how many blocks were read.
 #[derive(Clone, Copy)]
-pub struct Session<'a> {
+struct Session<'a> {
     frame: Option<Frame>,
     block: Option<PackedGrid<'a>>,
     blocks: usize,
 }
 
-// The frame with these sides, if there is one.
-fn made_frame(x: u64, y: u64, z: u64) -> Option<Frame>
-    ensures { option_map sides result ≡ new_frame x y z }
-{
-    Frame::new(x, y, z).ok()
-}
-
-// The grid of these words, if there is a frame for it and they are enough.
-fn made_grid<'a>(frame: Option<Frame>, words: &'a [u64]) -> Option<PackedGrid<'a>>
-    ensures { option_map grid_of result ≡ new_grid (option_map sides frame) words.now }
-{
-    match frame {
-        Some(frame) => PackedGrid::new(frame, words).ok(),
-        None => None,
-    }
-}
-
-fn frame_answer(x: u64, y: u64, z: u64) -> Option<Answer>
-    ensures { option_map reply_of result ≡ frame_reply x y z }
-{
-    match Frame::new(x, y, z) {
-        Ok(_) => None,
-        Err(refusal) => Some(Answer::Refused(CallName::Frame, refusal)),
-    }
-}
-
-fn grid_answer(frame: Option<Frame>, words: &[u64]) -> Option<Answer>
-    ensures { option_map reply_of result ≡ grid_reply (option_map sides frame) words.now }
-{
-    let Some(frame) = frame else {
-        return Some(Answer::NotTaken(CallName::Grid));
-    };
-    match PackedGrid::new(frame, words) {
-        Ok(_) => None,
-        Err(refusal) => Some(Answer::Refused(CallName::Grid, refusal)),
-    }
-}
-
-// 1 for a block that was made, and 0 for none.
-fn blocks_read(block: Option<PackedGrid<'_>>) -> usize
-    ensures value { result ≡ one (is_some (option_map grid_of block.entry)) }
-    ensures bound { result ≤ 1 }
-{
-    match block {
-        Some(_) => 1,
-        None => 0,
-    }
-}
-
 impl<'a> Session<'a> {
-    // The session after a frame or a block is made.
-    fn after(self, call: &'a MakeCall) -> Session<'a>
-        requires { self.blocks < 18446744073709551615 }
-        ensures home { home_of result ≡ made_home (home_of self.entry) call.now }
-        ensures held { held_of result ≡ made_held (home_of self.entry) call.now }
-        ensures bound { result.blocks ≤ self.entry.blocks + 1 }
+    // Makes a frame, which forgets the block; gives the answer, if there is one.
+    fn make_frame(&mut self, x: u64, y: u64, z: u64) -> Option<Answer>
+        ensures frame { option_map sides self.new.frame ≡ new_frame x y z }
+        ensures block { option_map grid_of self.new.block ≡ None }
+        ensures blocks { self.new.blocks ≡ self.old.blocks }
+        ensures answer { option_map reply_of result ≡ frame_reply x y z }
     {
-        let Session {
-            frame,
-            block: _,
-            blocks,
-        } = self;
-        match call {
-            MakeCall::Frame(x, y, z) => Session {
-                frame: made_frame(*x, *y, *z),
-                block: None,
-                blocks,
-            },
-            MakeCall::Grid(words) => {
-                let block = made_grid(frame, words.as_slice());
-                let read = blocks_read(block);
-                Session {
-                    frame,
-                    block,
-                    blocks: blocks + read,
-                }
+        let made = Frame::new(x, y, z);
+        self.frame = made.ok();
+        self.block = None;
+        made.err()
+            .map(|refusal| Answer::Refused(CallName::Frame, refusal))
+    }
+
+    // Makes the block a grid of these words; gives the answer, if there is one.
+    fn make_grid(&mut self, words: &'a [u64]) -> Option<Answer>
+        requires { self.old.blocks + 1 < 2 ^ 64 }
+        ensures frame { self.new.frame ≡ self.old.frame }
+        ensures block { option_map grid_of self.new.block ≡ new_grid (option_map sides self.old.frame) words.now }
+        ensures blocks { self.new.blocks ≡ self.old.blocks + one (is_some (new_grid (option_map sides self.old.frame) words.now)) }
+        ensures answer { option_map reply_of result ≡ grid_reply (option_map sides self.old.frame) words.now }
+    {
+        self.block = None;
+        let Some(frame) = self.frame else {
+            return Some(Answer::NotTaken(CallName::Grid));
+        };
+        match PackedGrid::new(frame, words) {
+            Ok(grid) => {
+                self.block = Some(grid);
+                self.blocks += 1;
+                None
+            }
+            Err(refusal) => Some(Answer::Refused(CallName::Grid, refusal)),
+        }
+    }
+
+    // Makes a call on the block, where there is one.
+    fn ask(&self, call: BlockCall, context: &mut Context) -> Result<(), AllocError>
+        ensures { OnOk result ((h : Home) → block_step h (held_of self.now) (state_of context.old) call ≡ world h (held_of self.now) (state_of context.new)) }
+    {
+        match &self.block {
+            Some(grid) => ask_block(grid, call, context),
+            None => context.tell(Answer::NotTaken(CallName::Block(call))),
+        }
+    }
+
+    // Cuts the block, where there is one, and makes calls while the cut stands; gives the calls that
+    // are left.
+    fn cut(
+        &self,
+        order: AxisOrder,
+        calls: &'a [Call],
+        context: &mut Context,
+    ) -> Result<&'a [Call], AllocError>
+        ensures fewer { IfOk result (λ left. length left.now ≤ length calls.now) }
+        ensures went { IfOk result (λ left. (h : Home) → runs (cut_step h (held_of self.now) (state_of context.old) order) calls.now ≡ runs (world h (held_of self.now) (state_of context.new)) left.now) }
+    {
+        match self.block {
+            Some(grid) => cut_block(grid, order, calls, context),
+            None => {
+                context.tell(Answer::NotTaken(CallName::Cut(order)))?;
+                Ok(calls)
             }
         }
     }
 
-    // What the making of a frame or a block answers, if anything.
-    fn answer(self, call: &MakeCall) -> Option<Answer>
-        ensures { option_map reply_of result ≡ made_reply (home_of self.entry) call.now }
+    // Makes a call, and if it cuts the block, those after it while the cut stands; gives the calls
+    // that are left.
+    fn step(
+        &mut self,
+        call: &'a Call,
+        rest: &'a [Call],
+        context: &mut Context,
+    ) -> Result<&'a [Call], AllocError>
+        requires { self.old.blocks + 1 < 2 ^ 64 }
+        ensures fewer { IfOk result (λ left. length left.now ≤ length rest.now) }
+        ensures bound { self.new.blocks ≤ self.old.blocks + 1 }
+        ensures went { IfOk result (λ left. runs (step (world (home_of self.old) (held_of self.old) (state_of context.old)) call.now) rest.now ≡ runs (world (home_of self.new) (held_of self.new) (state_of context.new)) left.now) }
     {
         match call {
-            MakeCall::Frame(x, y, z) => frame_answer(*x, *y, *z),
-            MakeCall::Grid(words) => grid_answer(self.frame, words.as_slice()),
+            Call::Make(MakeCall::Frame(x, y, z)) => {
+                context.tell_if(self.make_frame(*x, *y, *z))?;
+            }
+            Call::Make(MakeCall::Grid(words)) => {
+                context.tell_if(self.make_grid(words.as_slice()))?;
+            }
+            Call::SetTable(table, length) => context.set_table(*table, *length)?,
+            Call::OnBlock(call) => self.ask(*call, context)?,
+            Call::Cut(order) => return self.cut(*order, rest, context),
+            Call::OnCut(call) => context.tell(Answer::NotTaken(CallName::Question(*call)))?,
         }
+        Ok(rest)
     }
-}
-
-// Makes a call where there is no block.
-fn idle_step(call: &Call, context: &mut Context) -> Result<(), AllocError>
-    requires { ends (call.now ∷ []) ≡ false }
-    ensures { OnOk result ((h : Home) → step (world h nothing (state_of context.old)) call.now ≡ world h nothing (state_of context.new)) }
-{
-    match call {
-        Call::Make(_) => {}
-        Call::SetTable(table, length) => context.set_table(*table, *length)?,
-        Call::OnBlock(call) => context.tell(Answer::NotTaken(CallName::Block(*call)))?,
-        Call::Cut(order) => context.tell(Answer::NotTaken(CallName::Cut(*order)))?,
-        Call::OnCut(call) => context.tell(Answer::NotTaken(CallName::Question(*call)))?,
-    }
-    Ok(())
-}
-
-// Makes the call at a place, and if there is a block, those up to the next that makes something;
-// gives the place of the next call.
-fn session_step<'a>(
-    heap: Global,
-    session: Session<'a>,
-    calls: &'a [Call],
-    at: usize,
-    context: &mut Context,
-) -> Result<(Session<'a>, usize), AllocError>
-    requires { (at < length calls.now) × (session.blocks ≤ at) }
-    ensures forth { IfOk result (λ p. at < p.1) }
-    ensures bound { IfOk result (λ p. p.0.blocks ≤ p.1) }
-    ensures went { IfOk result (λ p. runs (world (home_of session.entry) (held_of session.entry) (state_of context.old)) (drop at calls.now) ≡ runs (world (home_of p.0) (held_of p.0) (state_of context.new)) (drop p.1 calls.now)) }
-{
-    let call = &calls[at];
-    if let Call::Make(make) = call {
-        context.tell_if(session.answer(make))?;
-        return Ok((session.after(make), at + 1));
-    }
-    if let Some(grid) = session.block {
-        let (_, next) = while_held(heap, grid, calls, at, context)?;
-        return Ok((session, next));
-    }
-    idle_step(call, context)?;
-    Ok((session, at + 1))
 }
 
 // What a script answered, how many blocks it read, and the last one, if there is one at the end.
@@ -167,7 +130,7 @@ pub struct Report {
 }
 
 // The sides of a block, and how many of its cells are solid.
-#[derive(Clone, Copy)]
+#[derive(Clone, Copy, PartialEq, Eq, Debug)]
 pub struct BlockSize {
     pub x: u16,
     pub y: u16,
@@ -189,6 +152,7 @@ fn block_size(block: Option<PackedGrid<'_>>) -> Option<BlockSize>
 }
 
 // Makes the calls of a script one after the other. A plain script does what is said of plain scripts.
+#[tactic(auto, unfolding(crate::specs::Scripts::runs))]
 pub fn run(heap: Global, calls: &[Call]) -> Result<Report, AllocError>
     ensures answers { IfOk result (λ p. map reply_of p.answers.items ≡ (ran calls.now).state.replies) }
     ensures blocks { IfOk result (λ p. p.blocks ≡ (ran calls.now).home.blocks) }
@@ -204,18 +168,12 @@ pub fn run(heap: Global, calls: &[Call]) -> Result<Report, AllocError>
         block: None,
         blocks: 0,
     };
-    let mut at = 0;
-    while at < calls.len() {
-        let (after, next) = session_step(heap, session, calls, at, &mut context)?;
-        session = after;
-        at = next;
+    let mut left = calls;
+    while let Some((call, rest)) = left.split_first() {
+        left = session.step(call, rest, &mut context)?;
     }
     let last = block_size(session.block);
-    let Context {
-        corner_table: _,
-        boxes: _,
-        answers,
-    } = context;
+    let Context { answers, .. } = context;
     Ok(Report {
         answers,
         blocks: session.blocks,

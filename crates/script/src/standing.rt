@@ -1,8 +1,7 @@
 // The calls while a cut stands.
-ghost use Rattle.std.specs.Prelude.{◌≡◌, ℕ, ◌<◌, ◌≤◌, min, true, false, [], ◌∷◌, length, drop, IfOk, if◌then◌else◌};
+ghost use Rattle.std.specs.Prelude.{◌≡◌, ◌≤◌, length, IfOk};
 ghost use Rattle.body.specs.Solids.{Solid};
-ghost use Rattle.cut.specs.Asks.{find_answer};
-ghost use Rattle.script.specs.Scripts.{Home, ends, find_at, free, question_reply, reopens as reopening, reply_of, runs, standing as upright, state_of, step, world};
+ghost use Rattle.script.specs.Scripts.{Home, find_at, free, question_reply, reply_of, runs, standing as upright, state_of, world};
 
 use crate::call::{Answer, Call, CallName, CutCall};
 use crate::context::Context;
@@ -16,6 +15,7 @@ use std::alloc::AllocError;
 const FARTHEST: u64 = 65535;
 
 // Finds the box of a cell with any numbers.
+#[tactic(auto, using(crate::proofs::Far::find_far))]
 fn find_far<B>(
     standing: &Cut<B>,
     boxes: &[BoxRecord],
@@ -38,102 +38,43 @@ fn question<B>(standing: &Cut<B>, boxes: &[BoxRecord], call: CutCall) -> Answer
     ensures { reply_of result ≡ question_reply boxes.now standing.now.order standing.now.count call }
 {
     let answer = match call {
-        CutCall::Volume => match standing.volume(boxes) {
-            Ok(volume) => Ok(Answer::Measured(volume)),
-            Err(refusal) => Err(refusal),
-        },
-        CutCall::Find(x, y, z) => match find_far(standing, boxes, x, y, z) {
-            Ok(number) => Ok(Answer::Found(number)),
-            Err(refusal) => Err(refusal),
-        },
-        CutCall::Neighbour(u, sense, above) => {
-            match standing.neighbour(boxes, u as usize, sense, above as usize) {
-                Ok(number) => Ok(Answer::Next(number)),
-                Err(refusal) => Err(refusal),
-            }
-        }
+        CutCall::Volume => standing.volume(boxes).map(Answer::Measured),
+        CutCall::Find(x, y, z) => find_far(standing, boxes, x, y, z).map(Answer::Found),
+        CutCall::Neighbour(u, sense, above) => standing
+            .neighbour(boxes, u as usize, sense, above as usize)
+            .map(Answer::Next),
         CutCall::Reopen => Ok(Answer::Reopened),
     };
-    match answer {
-        Ok(answer) => answer,
-        Err(refusal) => Answer::Refused(CallName::Question(call), refusal),
-    }
+    answer.unwrap_or_else(|refusal| Answer::Refused(CallName::Question(call), refusal))
 }
 
-fn reopens(call: CutCall) -> bool
-    ensures { result ≡ reopening call }
+// Makes calls until the cut is reopened, a call makes a frame or a block, or there is none left;
+// gives the calls that are left.
+#[tactic(auto, unfolding(crate::specs::Scripts::runs))]
+pub(crate) fn while_standing<'a, B>(
+    standing: &Cut<B>,
+    calls: &'a [Call],
+    context: &mut Context,
+) -> Result<&'a [Call], AllocError>
+    ensures fewer { IfOk result (λ left. length left.now ≤ length calls.now) }
+    ensures went { IfOk result (λ left. (m : Solid) (h : Home) → runs (world h (upright m standing.now.order standing.now.count) (state_of context.old)) calls.now ≡ runs (world h (free m) (state_of context.new)) left.now) }
 {
-    match call {
-        CutCall::Reopen => true,
-        _ => false,
-    }
-}
-
-// Whether the calls from a place on begin with one that makes a frame or a block, or there is none.
-pub(crate) fn at_end(calls: &[Call], at: usize) -> bool
-    ensures ends { result ≡ ends (drop at calls.now) }
-    ensures within { result ≡ false → at < length calls.now }
-{
-    if at < calls.len() {
-        let call = &calls[at];
+    let mut left = calls;
+    while let Some((call, rest)) = left.split_first() {
         match call {
-            Call::Make(_) => true,
-            _ => false,
+            Call::Make(_) => break,
+            Call::SetTable(table, length) => context.set_table(*table, *length)?,
+            Call::OnBlock(call) => context.tell(Answer::NotTaken(CallName::Block(*call)))?,
+            Call::Cut(order) => context.tell(Answer::NotTaken(CallName::Cut(*order)))?,
+            Call::OnCut(call) => {
+                let answer = question(standing, context.boxes.as_slice(), *call);
+                context.tell(answer)?;
+                if *call == CutCall::Reopen {
+                    return Ok(rest);
+                }
+            }
         }
-    } else {
-        true
+        left = rest;
     }
-}
-
-// Makes one call while a cut stands, and says whether that reopens it.
-fn standing_step<B>(
-    standing: &Cut<B>,
-    call: &Call,
-    context: &mut Context,
-) -> Result<bool, AllocError>
-    requires { ends (call.now ∷ []) ≡ false }
-    ensures { IfOk result (λ back. (m : Solid) (h : Home) → step (world h (upright m standing.now.order standing.now.count) (state_of context.old)) call.now ≡ world h (if back then free m else upright m standing.now.order standing.now.count) (state_of context.new)) }
-{
-    match call {
-        Call::Make(_) => Ok(false),
-        Call::SetTable(table, length) => {
-            context.set_table(*table, *length)?;
-            Ok(false)
-        }
-        Call::OnBlock(call) => {
-            context.tell(Answer::NotTaken(CallName::Block(*call)))?;
-            Ok(false)
-        }
-        Call::Cut(order) => {
-            context.tell(Answer::NotTaken(CallName::Cut(*order)))?;
-            Ok(false)
-        }
-        Call::OnCut(call) => {
-            let answer = question(standing, context.boxes.as_slice(), *call);
-            context.tell(answer)?;
-            Ok(reopens(*call))
-        }
-    }
-}
-
-// Makes the calls from a place on until the cut is reopened, a call makes a frame or a block, or
-// there is none left, and gives the place of the next call.
-pub(crate) fn while_standing<B>(
-    standing: &Cut<B>,
-    calls: &[Call],
-    from: usize,
-    context: &mut Context,
-) -> Result<usize, AllocError>
-    ensures forth { IfOk result (λ next. from ≤ next) }
-    ensures went { IfOk result (λ next. (m : Solid) (h : Home) → runs (world h (upright m standing.now.order standing.now.count) (state_of context.old)) (drop from calls.now) ≡ runs (world h (free m) (state_of context.new)) (drop next calls.now)) }
-{
-    let mut at = from;
-    while !at_end(calls, at) {
-        let reopened = standing_step(standing, &calls[at], context)?;
-        at += 1;
-        if reopened {
-            return Ok(at);
-        }
-    }
-    Ok(at)
+    Ok(left)
 }

@@ -1,6 +1,5 @@
 // How the calls of a script went.
-ghost use Rattle.std.specs.Prelude.{◌≡◌, ◌≤◌, map};
-ghost use Rattle.body.specs.Solids.{one};
+ghost use Rattle.std.specs.Prelude.{◌≡◌, map};
 ghost use Rattle.script.specs.Scripts.{reply_of};
 ghost use Rattle.script.specs.Tallies.{how_many, kind_of, same_kind};
 
@@ -24,26 +23,16 @@ fn way_of(answer: &Answer) -> Kind
     }
 }
 
-// 1 for an answer of a call that went the way that is sought, and 0 for any other.
-fn tell(answer: &Answer, sought: Kind) -> usize
-    ensures value { result ≡ one (same_kind (kind_of (reply_of answer.now)) sought) }
-    ensures bound { result ≤ 1 }
+// Whether the call that an answer is of went this way.
+fn went(answer: &Answer, way: Kind) -> bool
+    ensures { result ≡ same_kind (kind_of (reply_of answer.now)) way }
 {
-    match (way_of(answer), sought) {
-        (Kind::Granted, Kind::Granted) => 1,
-        (Kind::Refused, Kind::Refused) => 1,
-        (Kind::NotTaken, Kind::NotTaken) => 1,
-        _ => 0,
-    }
+    way_of(answer) == way
 }
 
 // The number of calls that went one way.
 pub fn count_kind(answers: &[Answer], sought: Kind) -> usize
     ensures { result ≡ how_many sought (map reply_of answers.now) }
 {
-    let mut count = 0;
-    for answer in answers {
-        count += tell(answer, sought);
-    }
-    count
+    answers.iter().filter(|answer| went(answer, sought)).count()
 }
