@@ -1,6 +1,6 @@
 -- Numbers, words and lines, a piece at a time.
 use Rattle.std.proofs.Common.{◌≡◌, ℕ, zero, suc, ◌+◌, ◌-◌, ◌<◌, ◌≤◌, Bool, true, false, cond, ◌&&◌, eqb, List, [], ◌∷◌, ◌++◌, length, get_or, take, drop, Some, None, Option, not, position, unwrap_or, ◌==◌, inl, inr, sym, refl, ap, ◌∙◌, add-zero, arith}
-use Rattle.std.proofs.lemmas.List.{at_drop_more, at_drop_all, drop-drop, get_or-drop, length-drop, take_rest}
+use Rattle.std.proofs.lemmas.List.{at_drop_more, at_drop_all, get_or-drop, length-drop, take_rest}
 use Rattle.std.proofs.lemmas.List.Quantifiers.{position-Some}
 use Rattle.std.proofs.lemmas.List.Sums.{fails_before_first, passes_at_first, prefix_len-le-length}
 use Rattle.std.specs.List.{position_or_len}
@@ -100,13 +100,13 @@ words_none (b ∷ bs) h = absurd (omega arith)
 -- the place of the first that passes, where there is none, and where the length stands for none
 position-None : {A : Type 0} (p : A → Bool) (xs : List A) (d : A) → position p xs ≡ None → (k : ℕ) → k < length xs → p (get_or xs k d) ≡ false
 position-None p xs d none k h = elim (cases_lt (position_or_len p xs) (length xs)) [
-  inl l ↦ let some : position p xs ≡ Some (position_or_len p xs) = cond-true _ _ _ (lt-ltb _ _ l) in cc
+  | inl l ↦ let some : position p xs ≡ Some (position_or_len p xs) = cond-true _ _ _ (lt-ltb _ _ l) in cc
   | inr l ↦ fails_before_first p xs k d (omega arith)
 ]
 
 position-length : {A : Type 0} (p : A → Bool) (xs : List A) → unwrap_or (position p xs) (length xs) ≡ position_or_len p xs
 position-length p xs = elim (cases_lt (position_or_len p xs) (length xs)) [
-  inl l ↦ ap (λ o. unwrap_or o (length xs)) (cond-true _ _ _ (lt-ltb _ _ l))
+  | inl l ↦ ap (λ o. unwrap_or o (length xs)) (cond-true _ _ _ (lt-ltb _ _ l))
   | inr l ↦ let most : position_or_len p xs ≤ length xs = prefix_len-le-length _ xs in ap (λ o. unwrap_or o (length xs)) (cond-false _ _ _ (le-ltb _ _ l)) ∙ (omega arith)
 ]
 
@@ -136,7 +136,7 @@ word_none line none =
     ∙ words_none (drop (length line) line) (omega (arith, length-drop (length line) line))
 
 words_first_to : (rest : List ℕ) (m : ℕ) → m ≡ position_or_len blank rest → 0 < length rest → blank (get_or rest 0 0) ≡ false → words_of rest ≡ take m rest ∷ words_of (drop m rest)
-words_first_to rest zero is some starts = 
+words_first_to rest zero is some starts =
     let passes : blank (get_or rest 0 0) ≡ true = ap (λ k. blank (get_or rest k 0)) is ∙ passes_at_first blank rest 0 (omega arith) in
     absurd (both_ways _ starts passes)
 words_first_to rest (suc m) is some starts =
