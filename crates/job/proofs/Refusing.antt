@@ -1,5 +1,5 @@
 -- What is refused says nothing, and what is read can be read in one way only.
-use Rattle.std.proofs.Common.{◌≡◌, ℕ, ◌+◌, ◌-◌, ◌*◌, ◌^◌, ◌<◌, ◌≤◌, Bool, true, false, cond, eqb, List, [], ◌∷◌, length, get_or, drop, IfNone, IsErrAnd, IfErr, Some, None, Ok, Err, vec_items, Option, Result, sym, refl, ap, ◌∙◌, subst, inl, inr, arith}
+use Rattle.std.proofs.Common.{◌≡◌, ℕ, ◌+◌, ◌-◌, ◌*◌, ◌^◌, ◌<◌, ◌≤◌, Bool, true, false, cond, eqb, List, [], ◌∷◌, length, get_or, drop, IfNone, IsErrAnd, IfErr, OnErr, is_ok, Some, None, Ok, Err, vec_items, Option, Result, sym, refl, ap, ◌∙◌, subst, inl, inr, arith}
 use Rattle.std.proofs.lemmas.List.{length-drop}
 use Rattle.std.proofs.lemmas.Option.{MatchOption-at_none, MatchOption-at_some}
 use Rattle.std.proofs.lemmas.Bool.{and_parts, ltb-true}
@@ -83,6 +83,12 @@ no_above words rest a u w first is none c l =
     let same : l.3 ≡ a = cc in
     let last = subst (λ r. Only r l.2) same l.5 in
     none _ (only_fits _ _ last) last
+
+-- where a part of a line refuses it, the command at hand refuses it too
+pub refused_at : {A E : Type 0} {P : Type 0} (k command : Command) (words : List (List ℕ)) (part : Result A E) (r : Result Call E) → command ≡ k → is_ok r ≡ is_ok part → (P → (c : Call) → SaysAlone k words c → ⊥) → OnErr part P → OnErr r ((c : Call) → SaysAlone command words c → ⊥)
+refused_at k command words part (Ok c) is same none refused = tt
+refused_at k command words (Ok x) (Err e) is same none refused = cc
+refused_at k command words (Err _) (Err e) is same none refused = subst (λ j. (c : Call) → SaysAlone j words c → ⊥) (sym is) (none refused)
 
 -- words that begin with none of the words for something
 pub unspelled : {K : Type 0} (spell : K → List ℕ) (o : Option K) (w : List ℕ) → Spells spell o w → o ≡ None → (k : K) → w ≡ spell k → ⊥
