@@ -1,5 +1,5 @@
 -- What is refused says nothing, and what is read can be read in one way only.
-use Rattle.std.proofs.Common.{◌≡◌, ℕ, ◌+◌, ◌-◌, ◌*◌, ◌^◌, ◌<◌, ◌≤◌, Bool, true, false, cond, eqb, List, [], ◌∷◌, length, get_or, drop, IfNone, IsErrAnd, IfErr, OnErr, is_ok, Some, None, Ok, Err, vec_items, Option, Result, sym, refl, ap, ◌∙◌, subst, inl, inr, arith}
+use Rattle.std.proofs.Common.{◌≡◌, ℕ, ◌+◌, ◌-◌, ◌*◌, ◌^◌, ◌<◌, ◌≤◌, Bool, true, false, cond, eqb, List, [], ◌∷◌, length, get_or, drop, IfNone, IsErrAnd, IfErr, IfOk, IfSome, MatchResult, IsTrue, is_ok, Some, None, Ok, Err, vec_items, Option, Result, sym, refl, ap, ◌∙◌, subst, inl, inr, arith}
 use Rattle.std.proofs.lemmas.List.{length-drop}
 use Rattle.std.proofs.lemmas.Option.{MatchOption-at_none, MatchOption-at_some}
 use Rattle.std.proofs.lemmas.Bool.{and_parts, ltb-true}
@@ -22,6 +22,20 @@ use Rattle.job.specs.declared.reader.Keyword.TheVariants as keywords
 pub refused_by : {T E : Type 0} {Q : E → Type 0} (P : E → Type 0) (r : Result T E) → IsErrAnd r Q → ((e : E) → Q e → P e) → IfErr r P
 refused_by P (Ok x) by f = absurd by
 refused_by P (Err e) by f = f e by
+
+-- what holds of a refusal holds where it is passed on
+pub refused_in : {T U E : Type 0} (P Q : E → Type 0) (r : Result T E) (q : Result U E) → MatchResult r (λ _. IsTrue (is_ok q)) (λ e. q ≡ Err e) → ((e : E) → P e → Q e) → IfErr r P → IfErr q Q
+refused_in P Q (Ok x) (Ok y) same f none = tt
+refused_in P Q (Ok x) (Err e) same f none = let no : false ≡ true = same in cc
+refused_in P Q (Err d) (Ok y) same f none = cc
+refused_in P Q (Err d) (Err e) same f none = let is : d ≡ e = cc in subst Q is (f d none)
+
+-- what holds of a value holds where it is put in `Some`
+pub some_mapped : {T E : Type 0} (P : T → Type 0) (r : Result T E) (q : Result (Option T) E) → MatchResult r (λ x. q ≡ Ok (Some x)) (λ e. q ≡ Err e) → IfOk r P → IfOk q (λ o. IfSome o P)
+some_mapped P (Ok x) (Ok (Some y)) is holds = let same : x ≡ y = cc in subst P same holds
+some_mapped P (Ok x) (Ok None) is holds = tt
+some_mapped P (Err d) (Ok o) is holds = cc
+some_mapped P r (Err e) is holds = tt
 
 -- a number of a text fits 64 bits
 number_on_fits : (n : ℕ) (bs : List ℕ) (m : ℕ) → n < 2 ^ 64 → number_on (Some n) bs ≡ Some m → m < 2 ^ 64
@@ -83,12 +97,6 @@ no_above words rest a u w first is none c l =
     let same : l.3 ≡ a = cc in
     let last = subst (λ r. Only r l.2) same l.5 in
     none _ (only_fits _ _ last) last
-
--- where a part of a line refuses it, the command at hand refuses it too
-pub refused_at : {A E : Type 0} {P : Type 0} (k command : Command) (words : List (List ℕ)) (part : Result A E) (r : Result Call E) → command ≡ k → is_ok r ≡ is_ok part → (P → (c : Call) → SaysAlone k words c → ⊥) → OnErr part P → OnErr r ((c : Call) → SaysAlone command words c → ⊥)
-refused_at k command words part (Ok c) is same none refused = tt
-refused_at k command words (Ok x) (Err e) is same none refused = cc
-refused_at k command words (Err _) (Err e) is same none refused = subst (λ j. (c : Call) → SaysAlone j words c → ⊥) (sym is) (none refused)
 
 -- words that begin with none of the words for something
 pub unspelled : {K : Type 0} (spell : K → List ℕ) (o : Option K) (w : List ℕ) → Spells spell o w → o ≡ None → (k : K) → w ≡ spell k → ⊥
@@ -199,15 +207,15 @@ module _ (s : Option (Axis → ℕ)) (line : List ℕ) (lines : List (List ℕ))
       subst (λ j. Goes j s a lines) (sym (spelled_once k b.0 b.1)) b.2
 
   -- a line that does not begin with a keyword, and one that does not go on as its keyword asks
-  module _ (w : List ℕ) (a : List (List ℕ)) (is : words_of line ≡ w ∷ a) (o : Option Keyword) (cases : Spells keyword_word o w) where
-    pub no_keyword : o ≡ None → Readable s (line ∷ lines) → ⊥
+  module _ (w : List ℕ) (a : List (List ℕ)) (is : words_of line ≡ w ∷ a) where
+    pub no_keyword : ((k : Keyword) → w ≡ keyword_word k → ⊥) → Readable s (line ∷ lines) → ⊥
     no_keyword none r =
         let b = begins w a is r.0 r.1 in
-        MatchOption-at_none _ _ none cases b.0 b.1
+        none b.0 b.1
 
-    pub no_call : (k : Keyword) → o ≡ Some k → NoLine k s a lines → Readable s (line ∷ lines) → ⊥
-    no_call k some none r =
-        let g = goes k a (is ∙ ap (λ v. v ∷ a) (MatchOption-at_some _ _ k some cases)) r in
+    pub no_call : (k : Keyword) → w ≡ keyword_word k → NoLine k s a lines → Readable s (line ∷ lines) → ⊥
+    no_call k spelled none r =
+        let g = goes k a (is ∙ ap (λ v. v ∷ a) spelled) r in
         none g.0 g.1 g.2
 
   -- after a line, lines that could be read can be read on
