@@ -78,7 +78,8 @@ ReadsKeyword w r = MatchResult r (λ k. w ≡ keyword_word k) (λ e. (e ≡ Unkn
 abbrev pub left : Text → List (List ℕ)
 left t = lines_of t.rest.now
 
--- a text after lines of it have been taken, or none
+-- a text after lines of it have been taken, or none; each function that takes lines says so, since a
+-- ghost field speaks of one value and not of those before and after
 pub record Later (s t : Text) : Type 0 where
   pub total : t.taken + length (left t) ≡ s.taken + length (left s)
   pub on : s.taken ≤ t.taken

@@ -29,6 +29,8 @@ pub enum Command {
     Reopen,
 }
 
+// What a word stands for. No TryFrom here and below: these types and the trait are of other crates. No
+// table of pairs either: each type's spelling is another, so each keeps a function to say it.
 fn table_of(word: &[u8]) -> Option<Table>
     ensures { Spells table_word result word.now }
 {
@@ -53,6 +55,7 @@ fn order_of(word: &[u8]) -> Option<AxisOrder>
     }
 }
 
+#[tactic(auto, using(std::proofs::lemmas::Slice::Eq::text_from_reads))]
 fn sense_of(word: &[u8]) -> Option<Sense>
     ensures { Spells sense_word result word.now }
 {

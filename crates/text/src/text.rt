@@ -64,7 +64,8 @@ fn split_line(text: &[u8]) -> (&[u8], &[u8])
     }
 }
 
-// What is left of a text, and how many of its lines have been taken.
+// What is left of a text, and how many of its lines have been taken. No Iterator: a scan takes lines
+// of its own between two of a job's, so no `for` or chain could go over a text.
 #[derive(Clone, Copy)]
 pub struct Text<'a> {
     rest: &'a [u8],
