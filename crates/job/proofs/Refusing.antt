@@ -1,14 +1,14 @@
 -- What is refused says nothing, and what is read can be read in one way only.
 use Rattle.std.proofs.Common.{◌≡◌, ℕ, ◌+◌, ◌-◌, ◌*◌, ◌^◌, ◌<◌, ◌≤◌, Bool, true, false, cond, eqb, List, [], ◌∷◌, length, get_or, drop, IfNone, IsErrAnd, IfErr, IfOk, IfSome, MatchResult, IsTrue, is_ok, Some, None, Ok, Err, vec_items, Option, Result, sym, refl, ap, ◌∙◌, subst, inl, inr, arith}
 use Rattle.std.proofs.lemmas.List.{length-drop}
-use Rattle.std.proofs.lemmas.Option.{MatchOption-at_none, MatchOption-at_some}
+use Rattle.std.proofs.lemmas.Option.{MatchOption-at_none}
 use Rattle.std.proofs.lemmas.Bool.{and_parts, ltb-true}
 use Rattle.geometry.specs.declared.axis.Axis.{Axis}
 use Rattle.geometry.specs.declared.axis.Axis.TheVariants.{X, Y}
 use Rattle.script.specs.Scripts.{new_frame}
 use Rattle.script.specs.declared.call.Call.{Call}
 use Rattle.job.proofs.Saying.{first_left}
-use Rattle.job.specs.Jobs.{Numbers, Only, Reads, Rows, Says, SaysAlone, Spells, Then, Three, force, frame_after, keyword_word, left, said, sense_word, skipped, table_word}
+use Rattle.job.specs.Jobs.{Numbers, Only, Reads, Rows, Says, SaysAlone, Then, Three, force, frame_after, keyword_word, left, said, sense_word, skipped, table_word}
 use Rattle.job.specs.Lines.{Line, NoLine, Readable}
 use Rattle.text.specs.Scans.{Row}
 use Rattle.text.specs.Texts.{digit, number_of, number_on, words_of}
@@ -44,10 +44,10 @@ number_on_fits n (b ∷ bs) m h e = next _ (λ t. ltb-true _ _ (and_parts (digit
   where
     next : (t : Bool) → (t ≡ true → n * 10 + (b - 48) < 2 ^ 64) → (n * 10 + (b - 48) < 2 ^ 64 → number_on (Some (n * 10 + (b - 48))) bs ≡ Some m → m < 2 ^ 64) → number_on (cond t (Some (n * 10 + (b - 48))) None) bs ≡ Some m → m < 2 ^ 64
     next true fits rest e = rest (fits refl) e
-    next false fits rest e = let z : ◌≡◌ {A = ℕ} 0 1 = cc in absurd (omega arith)
+    next false fits rest e = cc
 
 number_fits : (w : List ℕ) (n : ℕ) → number_of w ≡ Some n → n ≤ 18446744073709551615
-number_fits [] n e = let z : ◌≡◌ {A = ℕ} 0 1 = cc in absurd (omega arith)
+number_fits [] n e = cc
 number_fits (b ∷ bs) n e = omega (arith, number_on_fits 0 (b ∷ bs) n (omega arith) e)
 
 pub only_fits : (words : List (List ℕ)) (n : ℕ) → Only words n → n ≤ 18446744073709551615
@@ -97,13 +97,6 @@ no_above words rest a u w first is none c l =
     let same : l.3 ≡ a = cc in
     let last = subst (λ r. Only r l.2) same l.5 in
     none _ (only_fits _ _ last) last
-
--- words that begin with none of the words for something
-pub unspelled : {K : Type 0} (spell : K → List ℕ) (o : Option K) (w : List ℕ) → Spells spell o w → o ≡ None → (k : K) → w ≡ spell k → ⊥
-unspelled spell o w cases none = MatchOption-at_none _ _ none cases
-
-pub spelled_as : {K : Type 0} (spell : K → List ℕ) (o : Option K) (w : List ℕ) (k : K) → Spells spell o w → o ≡ Some k → w ≡ spell k
-spelled_as spell o w k cases some = MatchOption-at_some _ _ k some cases
 
 -- the lines end before all is read, and the next one is not as it has to be
 module _ (lines before : List (List ℕ)) (n count : ℕ) (h : n < count) (l : before ≡ drop n lines) where
@@ -193,7 +186,7 @@ Goes k s a lines = (s' : Option (Axis → ℕ)) × (lines' : List (List ℕ)) ×
 
 module _ (s : Option (Axis → ℕ)) (line : List ℕ) (lines : List (List ℕ)) where
   begins : (w : List ℕ) (a : List (List ℕ)) → words_of line ≡ w ∷ a → (calls : List Call) → Reads s (line ∷ lines) calls → (k : Keyword) × (w ≡ keyword_word k) × Goes k s a lines
-  begins w a is calls (skipped none rest) = let z : ◌≡◌ {A = ℕ} 0 1 = cc in absurd (omega arith)
+  begins w a is calls (skipped none rest) = cc
   begins w a is (call ∷ calls) (said says rest) =
       let l = says_line s (words_of line) lines call _ _ says in
       let e : w ∷ a ≡ keyword_word l.0 ∷ l.1 = sym is ∙ l.2 in
@@ -230,8 +223,7 @@ module _ (s : Option (Axis → ℕ)) (line : List ℕ) (lines : List (List ℕ))
   skip none calls (skipped _ rest) = (calls, rest)
   skip none (call ∷ calls) (said says rest) =
       let words = (says_line s (words_of line) lines call _ _ says).2 in
-      let z : ◌≡◌ {A = ℕ} 0 1 = cc in
-      absurd (omega arith)
+      cc
 
 pub on_skipped : (line : List ℕ) (a b : Reader) (o : Option Call) → IfNone o ((words_of line ≡ []) × (b ≡ a)) → o ≡ None → Readable (force a) (line ∷ left a.text) → Readable (force b) (left b.text)
 on_skipped line a b o blank is r =

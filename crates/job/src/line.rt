@@ -29,8 +29,9 @@ pub enum Command {
     Reopen,
 }
 
-// What a word stands for. No TryFrom here and below: these types and the trait are of other crates. No
-// table of pairs either: each type's spelling is another, so each keeps a function to say it.
+// What a word stands for. No TryFrom here and below: these types and the trait are of other crates. One
+// look-up in lists of pairs would be no plainer: each type would still need a function, and a proof too,
+// to say that its list follows its spelling.
 fn table_of(word: &[u8]) -> Option<Table>
     ensures { Spells table_word result word.now }
 {

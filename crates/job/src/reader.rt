@@ -127,7 +127,9 @@ fn read_rows(heap: Global, text: &mut Text, rows: usize, side: usize) -> Result<
     Ok(cells)
 }
 
-// The numbers of the next lines, one in each.
+// The numbers of the next lines, one in each. Not one function with `read_rows` that takes a closure: a
+// row puts many cells where a line puts one number, so its clauses would tell of a list that the
+// closure's calls change one after another, and both callers would have to take that apart again.
 fn read_words(heap: Global, text: &mut Text, count: usize) -> Result<Vec<u64>, Problem>
     ensures later { Later text.old text.new }
     ensures len { IfOk result (λ v. vec_len v ≡ count) }
@@ -170,7 +172,12 @@ impl<'a> Reader<'a> {
         end_line(line)?;
         let frame = self.frame.ok_or(Problem::NoFrame)?;
         let rows = frame.side(Axis::X) as usize * frame.side(Axis::Y) as usize;
-        let cells = read_rows(self.heap, &mut self.text, rows, frame.side(Axis::Z) as usize)?;
+        let cells = read_rows(
+            self.heap,
+            &mut self.text,
+            rows,
+            frame.side(Axis::Z) as usize,
+        )?;
         Ok(Call::Make(MakeCall::Grid(pack(self.heap, frame, cells.as_slice())?)))
     }
 

@@ -1,4 +1,4 @@
-use Rattle.std.proofs.Common.{[], rules}
+use Rattle.std.proofs.Common.{[]}
 use Rattle.job.proofs.Refusing.{refused_by}
 use Rattle.job.proofs.line.last_number.Goals as goal
 

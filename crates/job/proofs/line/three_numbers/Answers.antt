@@ -1,4 +1,3 @@
-use Rattle.std.proofs.Common.{rules}
 use Rattle.job.proofs.Refusing.{no_first, no_last, no_second, refused_by}
 use Rattle.job.proofs.line.three_numbers.Goals as goal
 

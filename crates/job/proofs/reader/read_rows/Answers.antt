@@ -1,4 +1,4 @@
-use Rattle.std.proofs.Common.{subst, rules}
+use Rattle.std.proofs.Common.{subst}
 use Rattle.job.specs.Jobs.{left}
 use Rattle.text.specs.Problems.{Fault}
 use Rattle.job.proofs.Refusing.{refused_by, row_good, too_few}

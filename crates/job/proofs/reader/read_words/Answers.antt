@@ -1,4 +1,4 @@
-use Rattle.std.proofs.Common.{sym, ◌∙◌, arith, rules}
+use Rattle.std.proofs.Common.{sym, ◌∙◌, arith}
 use Rattle.job.specs.Jobs.{left}
 use Rattle.job.proofs.Refusing.{number_good, only_fits, refused_by, too_few}
 use Rattle.job.proofs.Saying.{later_later, left_more, numbers_more}
@@ -22,5 +22,5 @@ returns-in_err-line-clause-none c = refused_by _ c.from_residual.result c.from_r
 
 pub returns-in_err-last_number-clause-none : goal.returns-in_err-last_number-clause-none
 returns-in_err-last_number-clause-none c = refused_by _ c.from_residual-in_err-last_number.result c.from_residual-in_err-last_number.ensures.1 (λ _ _ _ ns is numbers.
-      let only = number_good _ _ c.loop.counter _ c.loop-test.true c.loop.invariant.3 _ _ c.in_ok-line.ensures.line ns is numbers in
-      c.in_err-last_number.ensures.none _ (only_fits _ _ only) only)
+    let only = number_good _ _ c.loop.counter _ c.loop-test.true c.loop.invariant.3 _ _ c.in_ok-line.ensures.line ns is numbers in
+    c.in_err-last_number.ensures.none _ (only_fits _ _ only) only)

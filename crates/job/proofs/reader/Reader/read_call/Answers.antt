@@ -1,5 +1,4 @@
 use Rattle.std.proofs.Common.{◌∷◌, ap, ◌∙◌, rules}
-use Rattle.text.specs.Problems.{Fault}
 use Rattle.text.specs.Texts.{words_of}
 use Rattle.job.proofs.Refusing.{no_call, no_keyword, refused_by, refused_in, some_mapped}
 use Rattle.job.proofs.reader.Reader.read_call.Goals as goal
