@@ -1,10 +1,11 @@
 -- Numbers, words and lines, a piece at a time.
-use Rattle.std.proofs.Common.{◌≡◌, ℕ, zero, suc, ◌+◌, ◌-◌, ◌<◌, ◌≤◌, Bool, true, false, cond, ◌&&◌, eqb, List, [], ◌∷◌, ◌++◌, length, get_or, take, drop, Some, None, Option, not, position, unwrap_or, ◌==◌, inl, inr, sym, refl, ap, ◌∙◌, add-zero, arith}
+use lib.Pointwise.{pointwise}
+use Rattle.std.proofs.Common.{Bor, MatchOption, nat_eq, ◌≡◌, ℕ, zero, suc, ◌+◌, ◌-◌, ◌<◌, ◌≤◌, Bool, true, false, cond, ◌&&◌, eqb, List, [], ◌∷◌, length, get_or, take, drop, Some, None, Option, not, position, unwrap_or, ◌==◌, inl, inr, sym, refl, ap, ◌∙◌, add-zero, arith}
 use Rattle.std.proofs.lemmas.List.{at_drop_more, at_drop_all, get_or-drop, length-drop, take_rest}
 use Rattle.std.proofs.lemmas.List.Quantifiers.{position-Some}
 use Rattle.std.proofs.lemmas.List.Sums.{fails_before_first, passes_at_first, prefix_len-le-length}
 use Rattle.std.specs.List.{position_or_len}
-use Rattle.std.proofs.lemmas.Bool.{cases_lt, lt-ltb, le-ltb, not-false, not-true, cond-true, cond-false, and_right, both_ways, eq-eqb, ne_eqb}
+use Rattle.std.proofs.lemmas.Bool.{cases_lt, lt-ltb, le-ltb, not-false, not-true, cond-true, cond-false, and_right, both_ways}
 use Rattle.text.specs.Texts.{blank, chomped, digit_on, ends_word, lines_of, number_of, number_on, onto, words_of}
 
 pub number_of_some : (word : List ℕ) → 0 < length word → number_of word ≡ number_on (Some 0) word
@@ -63,29 +64,31 @@ words_first (b ∷ c ∷ bs) (suc n) h word after =
     ∙ cond-false _ _ _ (word 1 (omega arith))
     ∙ ap (onto b) (words_first (c ∷ bs) n (omega arith) (λ k l. word (suc k) (omega arith)) after)
 
--- the end of a line, with a carriage return there and without
-pub chomped_push : (front : List ℕ) (b : ℕ) → chomped (front ++ b ∷ []) ≡ cond (eqb b 13) front (front ++ b ∷ [])
-chomped_push [] b = refl
-chomped_push (a ∷ []) b = onto_cond (eqb b 13)
+-- a line without the carriage return at its end, as it is stripped off
+strip : (line : List ℕ) (n : ℕ) → length line ≡ suc n → chomped line ≡ cond (pointwise nat_eq (drop n line) (13 ∷ [])) (take n line) line
+strip [] n e = absurd (omega arith)
+strip (a ∷ []) zero e = ends (eqb a 13)
   where
-    onto_cond : (r : Bool) → a ∷ cond r [] (b ∷ []) ≡ cond r (a ∷ []) (a ∷ b ∷ [])
+    ends : (r : Bool) → cond r [] (a ∷ []) ≡ cond (r && true) [] (a ∷ [])
+    ends true = refl
+    ends false = refl
+strip (a ∷ []) (suc n) e = absurd (omega arith)
+strip (a ∷ c ∷ bs) zero e = absurd (omega arith)
+strip (a ∷ c ∷ bs) (suc n) e = ap (λ l. a ∷ l) (strip (c ∷ bs) n (omega arith)) ∙ onto_cond (pointwise nat_eq (drop n (c ∷ bs)) (13 ∷ []))
+  where
+    onto_cond : (r : Bool) → a ∷ cond r (take n (c ∷ bs)) (c ∷ bs) ≡ cond r (a ∷ take n (c ∷ bs)) (a ∷ c ∷ bs)
     onto_cond true = refl
     onto_cond false = refl
-chomped_push (a ∷ c ∷ front) b = ap (λ l. a ∷ l) (chomped_push (c ∷ front) b) ∙ onto_cond (eqb b 13)
-  where
-    onto_cond : (r : Bool) → a ∷ cond r (c ∷ front) (c ∷ front ++ b ∷ []) ≡ cond r (a ∷ c ∷ front) (a ∷ c ∷ front ++ b ∷ [])
-    onto_cond true = refl
-    onto_cond false = refl
 
-pub chomped_cut : (line front : List ℕ) (b : ℕ) → line ≡ front ++ b ∷ [] → b ≡ 13 → front ≡ chomped line
-chomped_cut line front b e is = sym (ap chomped e ∙ chomped_push front b ∙ cond-true _ _ _ (eq-eqb b 13 is))
+stripped : (line : List ℕ) → chomped line ≡ cond (pointwise nat_eq (drop (length line - 1) line) (13 ∷ [])) (take (length line - 1) line) line
+stripped [] = refl
+stripped (a ∷ bs) =
+    let n : length bs ≡ length (a ∷ bs) - 1 = omega arith in
+    strip (a ∷ bs) (length bs) (omega arith) ∙ ap (λ k. cond (pointwise nat_eq (drop k (a ∷ bs)) (13 ∷ [])) (take k (a ∷ bs)) (a ∷ bs)) n
 
-pub chomped_same : (line front : List ℕ) (b : ℕ) → line ≡ front ++ b ∷ [] → (b ≡ 13 → ⊥) → line ≡ chomped line
-chomped_same line front b e no_return = e ∙ sym (ap chomped e ∙ chomped_push front b ∙ cond-false _ _ _ (ne_eqb b 13 no_return))
-
-pub chomped_none : (line : List ℕ) → length line ≡ 0 → line ≡ chomped line
-chomped_none [] h = refl
-chomped_none (b ∷ bs) h = absurd (omega arith)
+pub chomped_stripped : (line : Bor (List ℕ)) (o : Option (Bor (List ℕ))) → MatchOption o (pointwise nat_eq (drop (length line.now - 1) line.now) (13 ∷ []) ≡ false) (λ x. (pointwise nat_eq (drop (length line.now - 1) line.now) (13 ∷ []) ≡ true) × (x.now ≡ take (length line.now - 1) line.now) × (length x.now + 1 ≡ length line.now)) → (unwrap_or o line).now ≡ chomped line.now
+chomped_stripped line None kept = sym (stripped line.now ∙ cond-false _ _ _ kept)
+chomped_stripped line (Some x) cut = cut.1 ∙ sym (stripped line.now ∙ cond-true _ _ _ cut.0)
 
 pub lines_none : (text : List ℕ) → length text ≡ 0 → lines_of text ≡ []
 unfolding lines_of

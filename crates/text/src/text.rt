@@ -46,10 +46,7 @@ pub fn next_word(line: &[u8]) -> Option<(&[u8], &[u8])>
 fn chomp(line: &[u8]) -> &[u8]
     ensures { result.now ≡ chomped line.now }
 {
-    let Some((last, front)) = line.split_last() else {
-        return line;
-    };
-    if *last == b'\r' { front } else { line }
+    line.strip_suffix(b"\r").unwrap_or(line)
 }
 
 // The first line of a text that is not empty, and what comes behind it.
