@@ -52,9 +52,6 @@ part_of_call (grid v) = refl
 part_of_call count = refl
 part_of_call corners = refl
 
-absent : {A : Type 0} {C : Type 0} (a : A) → None ≡ Some a → C
-absent a e = let z : ◌≡◌ {A = ℕ} 0 1 = cc in absurd (omega arith)
-
 -- a line that says a plain call among others says it by itself
 module _ (s s' : Option (Axis → ℕ)) (words lines lines' : List (List ℕ)) (call : Call) (c : PlainCall) (part : plain_part call ≡ Some c) where
   said_part : (d : PlainCall) → plain_part call ≡ Some d → plain.Says s words lines d s' lines' → plain.Says s words lines c s' lines'
@@ -64,7 +61,7 @@ module _ (s s' : Option (Axis → ℕ)) (words lines lines' : List (List ℕ)) (
       subst (λ k. plain.Says s words lines k s' lines') same says
 
   not_said : {C : Type 0} → plain_part call ≡ None → C
-  not_said e = absent c (sym e ∙ part)
+  not_said e = let none : None ≡ Some c = sym e ∙ part in cc
 
   alone_part : (k : Command) (a : List (List ℕ)) → words ≡ command_word k ∷ a → SaysAlone k a call → s' ≡ frame_after s call → lines' ≡ lines → plain.Says s words lines c s' lines'
   unfolding plain_part
@@ -92,9 +89,9 @@ module _ (s s' : Option (Axis → ℕ)) (words lines lines' : List (List ℕ)) (
 -- lines that say plain calls among others say them by themselves
 pub plain_reads : (s : Option (Axis → ℕ)) (lines : List (List ℕ)) (calls : List Call) → Reads s lines calls → (cs : List PlainCall) → calls ≡ map call_of cs → plain.Reads s lines cs
 plain_reads s lines calls ended [] is = plain.ended
-plain_reads s lines calls ended (c ∷ cs) is = let z : ◌≡◌ {A = ℕ} 0 1 = cc in absurd (omega arith)
+plain_reads s lines calls ended (c ∷ cs) is = cc
 plain_reads s lines calls (skipped none rest) cs is = plain.skipped none (plain_reads _ _ _ rest cs is)
-plain_reads s lines calls (said says rest) [] is = let z : ◌≡◌ {A = ℕ} 0 1 = cc in absurd (omega arith)
+plain_reads s lines calls (said says rest) [] is = cc
 plain_reads s lines (call ∷ calls) (said says rest) (c ∷ cs) is =
     let head : call ≡ call_of c = cc in
     let tail : calls ≡ map call_of cs = cc in
@@ -175,14 +172,12 @@ module _ (s : Option (Axis → ℕ)) (line : List ℕ) (lines : List (List ℕ))
   blank_line none cs (plain.skipped _ rest) = (cs, rest)
   blank_line none (c ∷ cs) (plain.said says rest) =
       let words = (plain_words s _ (words_of line) lines _ c says).2 in
-      let z : ◌≡◌ {A = ℕ} 0 1 = cc in
-      absurd (omega arith)
+      cc
 
   said_line : (s1 : Option (Axis → ℕ)) (l1 : List (List ℕ)) (call : Call) → Says s (words_of line) lines call s1 l1 → (cs : List PlainCall) → plain.Reads s (line ∷ lines) cs → IsPlain call × ((ds : List PlainCall) × plain.Reads s1 l1 ds)
   said_line s1 l1 call says cs (plain.skipped none rest) =
       let words = (says_line s (words_of line) lines call s1 l1 says).2 in
-      let z : ◌≡◌ {A = ℕ} 0 1 = cc in
-      absurd (omega arith)
+      cc
   said_line s1 l1 call says (c ∷ cs) (plain.said {s' = s2} {lines' = l2} plainly rest) =
       let same = says_same s s2 s1 (words_of line) lines l2 l1 (call_of c) call (says_plainly _ _ _ _ _ _ plainly) says in (
         plain_line s s1 (words_of line) lines l1 call (plain_words _ _ _ _ _ _ plainly) says,

@@ -1,14 +1,14 @@
 -- What is refused says nothing, and what is read can be read in one way only.
-use Rattle.std.proofs.Common.{◌≡◌, ℕ, ◌+◌, ◌-◌, ◌*◌, ◌^◌, ◌<◌, ◌≤◌, Bool, true, false, cond, eqb, List, [], ◌∷◌, length, get_or, drop, IfNone, IsErrAnd, IfErr, Some, None, Ok, Err, vec_items, Option, Result, sym, refl, ap, ◌∙◌, subst, inl, inr, arith}
+use Rattle.std.proofs.Common.{◌≡◌, ℕ, ◌+◌, ◌-◌, ◌*◌, ◌^◌, ◌<◌, ◌≤◌, Bool, true, false, cond, eqb, List, [], ◌∷◌, length, get_or, drop, IfNone, IsErrAnd, IfErr, IfOk, IfSome, MatchResult, IsTrue, is_ok, Some, None, Ok, Err, vec_items, Option, Result, sym, refl, ap, ◌∙◌, subst, inl, inr, arith}
 use Rattle.std.proofs.lemmas.List.{length-drop}
-use Rattle.std.proofs.lemmas.Option.{MatchOption-at_none, MatchOption-at_some}
+use Rattle.std.proofs.lemmas.Option.{MatchOption-at_none}
 use Rattle.std.proofs.lemmas.Bool.{and_parts, ltb-true}
 use Rattle.geometry.specs.declared.axis.Axis.{Axis}
 use Rattle.geometry.specs.declared.axis.Axis.TheVariants.{X, Y}
 use Rattle.script.specs.Scripts.{new_frame}
 use Rattle.script.specs.declared.call.Call.{Call}
 use Rattle.job.proofs.Saying.{first_left}
-use Rattle.job.specs.Jobs.{Numbers, Only, Reads, Rows, Says, SaysAlone, Spells, Then, Three, force, frame_after, keyword_word, left, said, sense_word, skipped, table_word}
+use Rattle.job.specs.Jobs.{Numbers, Only, Reads, Rows, Says, SaysAlone, Then, Three, force, frame_after, keyword_word, left, said, sense_word, skipped, table_word}
 use Rattle.job.specs.Lines.{Line, NoLine, Readable}
 use Rattle.text.specs.Scans.{Row}
 use Rattle.text.specs.Texts.{digit, number_of, number_on, words_of}
@@ -23,6 +23,20 @@ pub refused_by : {T E : Type 0} {Q : E → Type 0} (P : E → Type 0) (r : Resul
 refused_by P (Ok x) by f = absurd by
 refused_by P (Err e) by f = f e by
 
+-- what holds of a refusal holds where it is passed on
+pub refused_in : {T U E : Type 0} (P Q : E → Type 0) (r : Result T E) (q : Result U E) → MatchResult r (λ _. IsTrue (is_ok q)) (λ e. q ≡ Err e) → ((e : E) → P e → Q e) → IfErr r P → IfErr q Q
+refused_in P Q (Ok x) (Ok y) same f none = tt
+refused_in P Q (Ok x) (Err e) same f none = let no : false ≡ true = same in cc
+refused_in P Q (Err d) (Ok y) same f none = cc
+refused_in P Q (Err d) (Err e) same f none = let is : d ≡ e = cc in subst Q is (f d none)
+
+-- what holds of a value holds where it is put in `Some`
+pub some_mapped : {T E : Type 0} (P : T → Type 0) (r : Result T E) (q : Result (Option T) E) → MatchResult r (λ x. q ≡ Ok (Some x)) (λ e. q ≡ Err e) → IfOk r P → IfOk q (λ o. IfSome o P)
+some_mapped P (Ok x) (Ok (Some y)) is holds = let same : x ≡ y = cc in subst P same holds
+some_mapped P (Ok x) (Ok None) is holds = tt
+some_mapped P (Err d) (Ok o) is holds = cc
+some_mapped P r (Err e) is holds = tt
+
 -- a number of a text fits 64 bits
 number_on_fits : (n : ℕ) (bs : List ℕ) (m : ℕ) → n < 2 ^ 64 → number_on (Some n) bs ≡ Some m → m < 2 ^ 64
 number_on_fits n [] m h e = let same : n ≡ m = cc in omega arith
@@ -30,10 +44,10 @@ number_on_fits n (b ∷ bs) m h e = next _ (λ t. ltb-true _ _ (and_parts (digit
   where
     next : (t : Bool) → (t ≡ true → n * 10 + (b - 48) < 2 ^ 64) → (n * 10 + (b - 48) < 2 ^ 64 → number_on (Some (n * 10 + (b - 48))) bs ≡ Some m → m < 2 ^ 64) → number_on (cond t (Some (n * 10 + (b - 48))) None) bs ≡ Some m → m < 2 ^ 64
     next true fits rest e = rest (fits refl) e
-    next false fits rest e = let z : ◌≡◌ {A = ℕ} 0 1 = cc in absurd (omega arith)
+    next false fits rest e = cc
 
 number_fits : (w : List ℕ) (n : ℕ) → number_of w ≡ Some n → n ≤ 18446744073709551615
-number_fits [] n e = let z : ◌≡◌ {A = ℕ} 0 1 = cc in absurd (omega arith)
+number_fits [] n e = cc
 number_fits (b ∷ bs) n e = omega (arith, number_on_fits 0 (b ∷ bs) n (omega arith) e)
 
 pub only_fits : (words : List (List ℕ)) (n : ℕ) → Only words n → n ≤ 18446744073709551615
@@ -83,13 +97,6 @@ no_above words rest a u w first is none c l =
     let same : l.3 ≡ a = cc in
     let last = subst (λ r. Only r l.2) same l.5 in
     none _ (only_fits _ _ last) last
-
--- words that begin with none of the words for something
-pub unspelled : {K : Type 0} (spell : K → List ℕ) (o : Option K) (w : List ℕ) → Spells spell o w → o ≡ None → (k : K) → w ≡ spell k → ⊥
-unspelled spell o w cases none = MatchOption-at_none _ _ none cases
-
-pub spelled_as : {K : Type 0} (spell : K → List ℕ) (o : Option K) (w : List ℕ) (k : K) → Spells spell o w → o ≡ Some k → w ≡ spell k
-spelled_as spell o w k cases some = MatchOption-at_some _ _ k some cases
 
 -- the lines end before all is read, and the next one is not as it has to be
 module _ (lines before : List (List ℕ)) (n count : ℕ) (h : n < count) (l : before ≡ drop n lines) where
@@ -179,7 +186,7 @@ Goes k s a lines = (s' : Option (Axis → ℕ)) × (lines' : List (List ℕ)) ×
 
 module _ (s : Option (Axis → ℕ)) (line : List ℕ) (lines : List (List ℕ)) where
   begins : (w : List ℕ) (a : List (List ℕ)) → words_of line ≡ w ∷ a → (calls : List Call) → Reads s (line ∷ lines) calls → (k : Keyword) × (w ≡ keyword_word k) × Goes k s a lines
-  begins w a is calls (skipped none rest) = let z : ◌≡◌ {A = ℕ} 0 1 = cc in absurd (omega arith)
+  begins w a is calls (skipped none rest) = cc
   begins w a is (call ∷ calls) (said says rest) =
       let l = says_line s (words_of line) lines call _ _ says in
       let e : w ∷ a ≡ keyword_word l.0 ∷ l.1 = sym is ∙ l.2 in
@@ -193,15 +200,15 @@ module _ (s : Option (Axis → ℕ)) (line : List ℕ) (lines : List (List ℕ))
       subst (λ j. Goes j s a lines) (sym (spelled_once k b.0 b.1)) b.2
 
   -- a line that does not begin with a keyword, and one that does not go on as its keyword asks
-  module _ (w : List ℕ) (a : List (List ℕ)) (is : words_of line ≡ w ∷ a) (o : Option Keyword) (cases : Spells keyword_word o w) where
-    pub no_keyword : o ≡ None → Readable s (line ∷ lines) → ⊥
+  module _ (w : List ℕ) (a : List (List ℕ)) (is : words_of line ≡ w ∷ a) where
+    pub no_keyword : ((k : Keyword) → w ≡ keyword_word k → ⊥) → Readable s (line ∷ lines) → ⊥
     no_keyword none r =
         let b = begins w a is r.0 r.1 in
-        MatchOption-at_none _ _ none cases b.0 b.1
+        none b.0 b.1
 
-    pub no_call : (k : Keyword) → o ≡ Some k → NoLine k s a lines → Readable s (line ∷ lines) → ⊥
-    no_call k some none r =
-        let g = goes k a (is ∙ ap (λ v. v ∷ a) (MatchOption-at_some _ _ k some cases)) r in
+    pub no_call : (k : Keyword) → w ≡ keyword_word k → NoLine k s a lines → Readable s (line ∷ lines) → ⊥
+    no_call k spelled none r =
+        let g = goes k a (is ∙ ap (λ v. v ∷ a) spelled) r in
         none g.0 g.1 g.2
 
   -- after a line, lines that could be read can be read on
@@ -216,8 +223,7 @@ module _ (s : Option (Axis → ℕ)) (line : List ℕ) (lines : List (List ℕ))
   skip none calls (skipped _ rest) = (calls, rest)
   skip none (call ∷ calls) (said says rest) =
       let words = (says_line s (words_of line) lines call _ _ says).2 in
-      let z : ◌≡◌ {A = ℕ} 0 1 = cc in
-      absurd (omega arith)
+      cc
 
 pub on_skipped : (line : List ℕ) (a b : Reader) (o : Option Call) → IfNone o ((words_of line ≡ []) × (b ≡ a)) → o ≡ None → Readable (force a) (line ∷ left a.text) → Readable (force b) (left b.text)
 on_skipped line a b o blank is r =

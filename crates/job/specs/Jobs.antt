@@ -1,5 +1,5 @@
 -- Jobs: what the lines of a text say.
-use Rattle.std.specs.Prelude.{◌≡◌, ℕ, ◌+◌, ◌*◌, ◌<◌, ◌≤◌, true, ◌⊎◌, List, [], ◌∷◌, ◌++◌, length, take, drop, is_some, Some, vec_items, codes, Option, Vec, MatchOption, ◌≢◌, slice_index, slice_index_or}
+use Rattle.std.specs.Prelude.{◌≡◌, ℕ, ◌+◌, ◌*◌, ◌<◌, ◌≤◌, true, ◌⊎◌, List, [], ◌∷◌, ◌++◌, length, take, drop, is_some, Some, vec_items, codes, Option, Result, Vec, MatchOption, MatchResult, ◌≢◌, slice_index, slice_index_or}
 use Rattle.std.specs.List.{flat_map}
 use Rattle.std.specs.Option.{option_map}
 use Rattle.std.specs.declared.alloc.Global.{Global}
@@ -13,6 +13,8 @@ use Rattle.cut.specs.declared.asks.Sense.{Sense}
 use Rattle.cut.specs.declared.asks.Sense.TheVariants.{AForward, ABackward, BForward, BBackward}
 use Rattle.text.specs.Scans.{Row, row_cells, scanned}
 use Rattle.text.specs.Texts.{lines_of, number_of, words_of}
+use Rattle.text.specs.declared.problem.Problem.{Problem}
+use Rattle.text.specs.declared.problem.Problem.TheVariants.{UnknownCommand}
 use Rattle.text.specs.declared.text.Text.{Text}
 use Rattle.script.specs.Scripts.{new_frame}
 use Rattle.script.specs.declared.call.Call.{Call}
@@ -68,11 +70,16 @@ sense_word BBackward = codes "B-"
 abbrev pub Spells : {K : Type 0} → (K → List ℕ) → Option K → List ℕ → Type 0
 Spells {K} spell o w = MatchOption o ((k : K) → w ≢ spell k) (λ k. w ≡ spell k)
 
+-- a word is read as the keyword that it spells, or as no command
+abbrev pub ReadsKeyword : List ℕ → Result Keyword Problem → Type 0
+ReadsKeyword w r = MatchResult r (λ k. w ≡ keyword_word k) (λ e. (e ≡ UnknownCommand) × ((k : Keyword) → w ≢ keyword_word k))
+
 -- the lines that are left
 abbrev pub left : Text → List (List ℕ)
 left t = lines_of t.rest.now
 
--- a text after lines of it have been taken, or none
+-- a text after lines of it have been taken, or none; each function that takes lines says so, since a
+-- ghost field speaks of one value and not of those before and after
 pub record Later (s t : Text) : Type 0 where
   pub total : t.taken + length (left t) ≡ s.taken + length (left s)
   pub on : s.taken ≤ t.taken

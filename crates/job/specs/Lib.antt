@@ -1,3 +1,4 @@
+pub mod Errors
 pub mod Jobs
 pub mod Lines
 pub mod Plain

@@ -29,6 +29,9 @@ pub enum Command {
     Reopen,
 }
 
+// What a word stands for. No TryFrom here and below: these types and the trait are of other crates. One
+// look-up in lists of pairs would be no plainer: each type would still need a function, and a proof too,
+// to say that its list follows its spelling.
 fn table_of(word: &[u8]) -> Option<Table>
     ensures { Spells table_word result word.now }
 {
@@ -53,6 +56,7 @@ fn order_of(word: &[u8]) -> Option<AxisOrder>
     }
 }
 
+#[tactic(auto, using(std::proofs::lemmas::Slice::Eq::text_from_reads))]
 fn sense_of(word: &[u8]) -> Option<Sense>
     ensures { Spells sense_word result word.now }
 {
@@ -161,26 +165,20 @@ pub(crate) fn read_command(command: Command, line: &[u8]) -> Result<Call, Proble
 {
     match command {
         Command::Frame => {
-            let (x, y, z) = three_numbers(line)?;
-            Ok(Call::Make(MakeCall::Frame(x, y, z)))
+            three_numbers(line).map(|(x, y, z)| Call::Make(MakeCall::Frame(x, y, z)))
         }
-        Command::Table => Ok(read_table(line)?),
+        Command::Table => read_table(line),
         Command::Count => bare(line, Call::OnBlock(BlockCall::Count)),
         Command::Corners => bare(line, Call::OnBlock(BlockCall::Corners)),
         Command::Inspect => {
-            let order = last_order(line)?;
-            Ok(Call::OnBlock(BlockCall::Inspect(order)))
+            last_order(line).map(|order| Call::OnBlock(BlockCall::Inspect(order)))
         }
-        Command::Cut => {
-            let order = last_order(line)?;
-            Ok(Call::Cut(order))
-        }
+        Command::Cut => last_order(line).map(Call::Cut),
         Command::Volume => bare(line, Call::OnCut(CutCall::Volume)),
         Command::Find => {
-            let (x, y, z) = three_numbers(line)?;
-            Ok(Call::OnCut(CutCall::Find(x, y, z)))
+            three_numbers(line).map(|(x, y, z)| Call::OnCut(CutCall::Find(x, y, z)))
         }
-        Command::Neighbour => Ok(read_neighbour(line)?),
+        Command::Neighbour => read_neighbour(line),
         Command::Reopen => bare(line, Call::OnCut(CutCall::Reopen)),
     }
 }

@@ -1,9 +1,10 @@
 // Reading a job: its text into calls.
-ghost use Rattle.std.specs.Prelude.{◌≡◌, ℕ, ◌+◌, ◌≤◌, List, [], ◌∷◌, map, length, take, drop, IfSome, IfNone, IfOk, IfErr, None as Absent, vec_len, codes, Option, OnErr, OnOk};
+ghost use Rattle.std.specs.Prelude.{◌≡◌, ℕ, ◌+◌, ◌≤◌, List, [], ◌∷◌, map, length, take, drop, IfSome, IfNone, IfOk, IfErr, Some, None as Absent, vec_len, codes, Option, OnErr, OnOk};
 ghost use Rattle.geometry.specs.Frames.{sides};
-ghost use Rattle.job.specs.Jobs.{Later, Numbers, Reads, Rows, Says, SoFar, Spells, command_word, force, frame_after, keyword_word, left};
+ghost use Rattle.job.specs.Jobs.{Later, Numbers, Reads, Rows, ReadsKeyword, Says, SoFar, command_word, force, frame_after, keyword_word, left};
 ghost use Rattle.job.specs.Lines.{NoLine, Readable};
 ghost use Rattle.job.specs.Plain.{Reads as ReadsPlainly};
+ghost use Rattle.job.specs.Errors.{error_message};
 ghost use Rattle.script.specs.Plain.{PlainCall, call_of};
 ghost use Rattle.text.specs.Problems.{Fault};
 ghost use Rattle.text.specs.Scans.{row_cells};
@@ -36,6 +37,8 @@ pub struct JobError {
 }
 
 impl fmt::Display for JobError {
+    ghost output = { λ e. Some (error_message e) };
+
     fn fmt<W: fmt::Write>(&self, f: &mut fmt::Formatter<W>) -> fmt::Result {
         let line = self.line;
         let problem = self.problem;
@@ -52,23 +55,27 @@ pub enum Keyword {
     Alone(Command),
 }
 
-fn keyword_of(word: &[u8]) -> Option<Keyword>
-    ensures { Spells keyword_word result word.now }
-{
-    match word {
-        b"scan" => Some(Keyword::Scan),
-        b"grid" => Some(Keyword::Grid),
-        b"frame" => Some(Keyword::Alone(Command::Frame)),
-        b"table" => Some(Keyword::Alone(Command::Table)),
-        b"count" => Some(Keyword::Alone(Command::Count)),
-        b"corners" => Some(Keyword::Alone(Command::Corners)),
-        b"inspect" => Some(Keyword::Alone(Command::Inspect)),
-        b"cut" => Some(Keyword::Alone(Command::Cut)),
-        b"volume" => Some(Keyword::Alone(Command::Volume)),
-        b"find" => Some(Keyword::Alone(Command::Find)),
-        b"neighbour" => Some(Keyword::Alone(Command::Neighbour)),
-        b"reopen" => Some(Keyword::Alone(Command::Reopen)),
-        _ => None,
+impl TryFrom<&[u8]> for Keyword {
+    type Error = Problem;
+
+    ghost try_from_gives = { λ w. ReadsKeyword w.now };
+
+    fn try_from(word: &[u8]) -> Result<Keyword, Problem> {
+        match word {
+            b"scan" => Ok(Keyword::Scan),
+            b"grid" => Ok(Keyword::Grid),
+            b"frame" => Ok(Keyword::Alone(Command::Frame)),
+            b"table" => Ok(Keyword::Alone(Command::Table)),
+            b"count" => Ok(Keyword::Alone(Command::Count)),
+            b"corners" => Ok(Keyword::Alone(Command::Corners)),
+            b"inspect" => Ok(Keyword::Alone(Command::Inspect)),
+            b"cut" => Ok(Keyword::Alone(Command::Cut)),
+            b"volume" => Ok(Keyword::Alone(Command::Volume)),
+            b"find" => Ok(Keyword::Alone(Command::Find)),
+            b"neighbour" => Ok(Keyword::Alone(Command::Neighbour)),
+            b"reopen" => Ok(Keyword::Alone(Command::Reopen)),
+            _ => Err(Problem::UnknownCommand),
+        }
     }
 }
 
@@ -110,7 +117,7 @@ fn read_rows(heap: Global, text: &mut Text, rows: usize, side: usize) -> Result<
     ensures none { IfErr result (λ e. Fault e → Rows rows side (left text.old) → ⊥) }
 {
     let mut cells = Vec::new(heap);
-    for _i in 0..rows {
+    for _ in 0..rows {
         let row = need_line(text)?;
         if row.len() != side {
             return Err(Problem::RowLength);
@@ -120,7 +127,9 @@ fn read_rows(heap: Global, text: &mut Text, rows: usize, side: usize) -> Result<
     Ok(cells)
 }
 
-// The numbers of the next lines, one in each.
+// The numbers of the next lines, one in each. Not one function with `read_rows` that takes a closure: a
+// row puts many cells where a line puts one number, so its clauses would tell of a list that the
+// closure's calls change one after another, and both callers would have to take that apart again.
 fn read_words(heap: Global, text: &mut Text, count: usize) -> Result<Vec<u64>, Problem>
     ensures later { Later text.old text.new }
     ensures len { IfOk result (λ v. vec_len v ≡ count) }
@@ -129,16 +138,17 @@ fn read_words(heap: Global, text: &mut Text, count: usize) -> Result<Vec<u64>, P
     ensures none { IfErr result (λ e. Fault e → (ns : List ℕ) → length ns ≡ count → Numbers ns (left text.old) → ⊥) }
 {
     let mut words = Vec::new(heap);
-    for _i in 0..count {
+    for _ in 0..count {
         let line = need_line(text)?;
         words.push(last_number(line, u64::MAX)?)?;
     }
     Ok(words)
 }
 
-// What is left of the text, and the frame in force.
+// What is left of the text, the frame in force, and where the calls get memory.
 #[derive(Clone, Copy)]
 struct Reader<'a> {
+    heap: Global,
     text: Text<'a>,
     frame: Option<Frame>,
 }
@@ -154,7 +164,7 @@ impl<'a> Reader<'a> {
         Ok(call)
     }
 
-    fn read_scan(&mut self, heap: Global, line: &[u8]) -> Result<Call, Problem>
+    fn read_scan(&mut self, line: &[u8]) -> Result<Call, Problem>
         ensures later { Later self.old.text self.new.text }
         ensures says { IfOk result (λ k. Says (force self.old) (codes "scan" ∷ words_of line.now) (left self.old.text) k (force self.new) (left self.new.text)) }
         ensures none { IfErr result (λ e. Fault e → NoLine keywords.Scan (force self.old) (words_of line.now) (left self.old.text)) }
@@ -162,37 +172,40 @@ impl<'a> Reader<'a> {
         end_line(line)?;
         let frame = self.frame.ok_or(Problem::NoFrame)?;
         let rows = frame.side(Axis::X) as usize * frame.side(Axis::Y) as usize;
-        let cells = read_rows(heap, &mut self.text, rows, frame.side(Axis::Z) as usize)?;
-        Ok(Call::Make(MakeCall::Grid(pack(heap, frame, cells.as_slice())?)))
+        let cells = read_rows(
+            self.heap,
+            &mut self.text,
+            rows,
+            frame.side(Axis::Z) as usize,
+        )?;
+        Ok(Call::Make(MakeCall::Grid(pack(self.heap, frame, cells.as_slice())?)))
     }
 
-    fn read_grid(&mut self, heap: Global, line: &[u8]) -> Result<Call, Problem>
+    fn read_grid(&mut self, line: &[u8]) -> Result<Call, Problem>
         ensures later { Later self.old.text self.new.text }
         ensures says { IfOk result (λ k. Says (force self.old) (codes "grid" ∷ words_of line.now) (left self.old.text) k (force self.new) (left self.new.text)) }
         ensures none { IfErr result (λ e. Fault e → NoLine keywords.Grid (force self.old) (words_of line.now) (left self.old.text)) }
     {
         let count = last_number(line, MOST_WORDS)?;
-        if self.frame.is_none() {
-            return Err(Problem::NoFrame);
-        }
-        Ok(Call::Make(MakeCall::Grid(read_words(heap, &mut self.text, count as usize)?)))
+        self.frame.ok_or(Problem::NoFrame)?;
+        Ok(Call::Make(MakeCall::Grid(read_words(self.heap, &mut self.text, count as usize)?)))
     }
 
     // The call that a keyword says with the rest of its line and the lines that belong to it.
-    fn read_keyword(&mut self, heap: Global, keyword: Keyword, line: &[u8]) -> Result<Call, Problem>
+    fn read_keyword(&mut self, keyword: Keyword, line: &[u8]) -> Result<Call, Problem>
         ensures later { Later self.old.text self.new.text }
         ensures says { IfOk result (λ k. Says (force self.old) (keyword_word keyword ∷ words_of line.now) (left self.old.text) k (force self.new) (left self.new.text)) }
         ensures none { IfErr result (λ e. Fault e → NoLine keyword (force self.old) (words_of line.now) (left self.old.text)) }
     {
         match keyword {
-            Keyword::Scan => Ok(self.read_scan(heap, line)?),
-            Keyword::Grid => Ok(self.read_grid(heap, line)?),
-            Keyword::Alone(command) => Ok(self.read_alone(command, line)?),
+            Keyword::Scan => self.read_scan(line),
+            Keyword::Grid => self.read_grid(line),
+            Keyword::Alone(command) => self.read_alone(command, line),
         }
     }
 
     // The call that a line says, with the lines that belong to it, or none of a blank line.
-    fn read_call(&mut self, heap: Global, line: &[u8]) -> Result<Option<Call>, Problem>
+    fn read_call(&mut self, line: &[u8]) -> Result<Option<Call>, Problem>
         ensures later { Later self.old.text self.new.text }
         ensures blank { IfOk result (λ o. IfNone o ((words_of line.now ≡ []) × (self.new ≡ self.old))) }
         ensures says { IfOk result (λ o. IfSome o (λ k. Says (force self.old) (words_of line.now) (left self.old.text) k (force self.new) (left self.new.text))) }
@@ -201,19 +214,18 @@ impl<'a> Reader<'a> {
         let Some((name, rest)) = next_word(line) else {
             return Ok(None);
         };
-        let keyword = keyword_of(name).ok_or(Problem::UnknownCommand)?;
-        let call = self.read_keyword(heap, keyword, rest)?;
-        Ok(Some(call))
+        let keyword = Keyword::try_from(name)?;
+        self.read_keyword(keyword, rest).map(Some)
     }
 
     // Puts the call of a line, if it says one, behind the others.
-    fn read_line(&mut self, heap: Global, calls: &mut Vec<Call>, line: &[u8]) -> Result<(), Problem>
+    fn read_line(&mut self, calls: &mut Vec<Call>, line: &[u8]) -> Result<(), Problem>
         ensures later { Later self.old.text self.new.text }
         ensures reads { OnOk result ((s : Option (TheAxis → ℕ)) (lines : List (List ℕ)) → SoFar s lines calls.old.items (force self.old) (line.now ∷ left self.old.text) → SoFar s lines calls.new.items (force self.new) (left self.new.text)) }
         ensures on { OnOk result (Readable (force self.old) (line.now ∷ left self.old.text) → Readable (force self.new) (left self.new.text)) }
         ensures none { IfErr result (λ e. Fault e → Readable (force self.old) (line.now ∷ left self.old.text) → ⊥) }
     {
-        if let Some(call) = self.read_call(heap, line)? {
+        if let Some(call) = self.read_call(line)? {
             calls.push(call)?;
         }
         Ok(())
@@ -224,12 +236,11 @@ impl<'a> Reader<'a> {
         ensures line { (self.now.text.taken ≤ result.line) × (result.line ≤ self.now.text.taken + 1) }
         ensures problem { result.problem ≡ problem }
     {
-        let taken = self.text.taken;
-        let line = match problem {
-            Problem::MissingLine => taken.saturating_add(1),
-            _ => taken,
-        };
-        JobError { line, problem }
+        let missing = usize::from(problem == Problem::MissingLine);
+        JobError {
+            line: self.text.taken.saturating_add(missing),
+            problem,
+        }
     }
 }
 
@@ -243,12 +254,13 @@ pub fn read(heap: Global, text: &[u8]) -> Result<Vec<Call>, JobError>
     ensures plain_malformed { IfErr result (λ e. Fault e.problem → (cs : List PlainCall) → ReadsPlainly Absent (lines_of text.now) cs → ⊥) }
 {
     let mut reader = Reader {
+        heap,
         text: Text::new(text),
         frame: None,
     };
     let mut calls = Vec::new(heap);
     while let Some(line) = reader.text.next_line() {
-        if let Err(problem) = reader.read_line(heap, &mut calls, line) {
+        if let Err(problem) = reader.read_line(&mut calls, line) {
             return Err(reader.fault(problem));
         }
     }

@@ -1,8 +1,10 @@
 -- The packing of a scan means what the scan means.
-use Rattle.std.proofs.Common.{◌≡◌, ℕ, ◌+◌, ◌-◌, ◌*◌, ◌/◌, ◌%◌, ◌<◌, ◌≤◌, min, Bool, true, false, ◌&&◌, List, get_or, take, drop, sym, refl, ap, ◌∙◌, arith, below_more}
+use Rattle.std.proofs.Common.{◌≡◌, ℕ, ◌+◌, ◌-◌, ◌*◌, ◌/◌, ◌%◌, ◌<◌, ◌≤◌, min, Bool, true, false, ◌&&◌, List, get_or, take, drop, map, sym, refl, ap, ◌∙◌, arith}
 use mathlib.Core.Path.{fun_ext}
 use Rattle.std.proofs.lemmas.Nat.{div-mul-add, mod-mul-add, mul-add-lt, mul-le}
 use Rattle.std.proofs.lemmas.List.{get_or-take, get_or-drop}
+use Rattle.std.proofs.lemmas.List.FromFn.{get_or-map-range_with_len}
+use Rattle.std.specs.List.{range_with_len}
 use Rattle.std.proofs.lemmas.Bool.{and_parts, ltb-true}
 use Rattle.geometry.specs.Frames.{in_frame}
 use Rattle.geometry.specs.declared.axis.Axis.{Axis}
@@ -28,11 +30,6 @@ packed_word_from side cells n w count part v m p =
     ap word_of p
     ∙ ap (λ k. word_of (take k (drop (n / w * side + n % w * 64) cells))) m
     ∙ sym (packed_word_at side cells n (n / w) (n % w) (ap (λ u. n / u) (sym v)) (ap (λ u. n % u) (sym v)))
-
--- a list that follows f, with one more at the end
-pub follows_more : (f : ℕ → ℕ) (before after : List ℕ) (len n x : ℕ) → len ≡ n → ((k d : ℕ) → k < len → get_or after k d ≡ get_or before k d) → get_or after len 0 ≡ x → x ≡ f n → ((k : ℕ) → k < n → get_or before k 0 ≡ f k) → (k : ℕ) → k < n + 1 → get_or after k 0 ≡ f k
-follows_more f before after len n x e old new is inv =
-    below_more (λ k. get_or after k 0 ≡ f k) n (λ k h. old k 0 (omega arith) ∙ inv k h) (ap (λ m. get_or after m 0) (sym e) ∙ new ∙ is)
 
 -- how many words a frame takes, as it is worked out, and that they are few
 pub words_counted : (s : Axis → ℕ) (x y z w : ℕ) → x ≡ s X → y ≡ s Y → z ≡ s Z → w ≡ row_words z → x * y * w ≡ words_needed s
@@ -73,3 +70,8 @@ module _ (s : Axis → ℕ) (cells : List Bool) (words : List ℕ) (each : (n : 
   pub packed_scan : packed s words ≡ scanned s cells
   unfolding packed scanned
   packed_scan = ap (λ h. record { side = s; holds = h }) (fun_ext (λ i. fun_ext (λ j. fun_ext (λ k. and_same (in_frame s i j k) _ _ (cell_same i j k)))))
+
+-- and so do words that are worked out one by one
+pub packed_map : (s : Axis → ℕ) (cells : List Bool) (words : List ℕ) (side count : ℕ) → side ≡ s Z → count ≡ words_needed s → words ≡ map (λ n. packed_word side cells n) (range_with_len 0 count) → packed s words ≡ scanned s cells
+packed_map s cells words side count is all w =
+    packed_scan s cells words (λ n h. ap (λ v. get_or v n 0) w ∙ get_or-map-range_with_len _ 0 count n n 0 (omega arith) (omega arith) ∙ ap (λ z. packed_word z cells n) is)

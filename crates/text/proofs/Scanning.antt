@@ -1,9 +1,8 @@
 -- Words as lists of bits, and the parts of a list of cells that they hold.
-use Rattle.std.proofs.Common.{◌≡◌, ℕ, zero, suc, ◌+◌, ◌-◌, ◌*◌, ◌^◌, ◌<◌, ◌≤◌, min, Bool, true, false, eqb, List, [], ◌∷◌, ◌++◌, length, get_or, take, drop, sym, refl, ap, ◌∙◌, inl, inr, pow-suc, arith, pow_mono}
+use Rattle.std.proofs.Common.{◌≡◌, ℕ, zero, suc, ◌+◌, ◌*◌, ◌^◌, ◌<◌, ◌≤◌, Bool, true, false, eqb, List, [], ◌∷◌, ◌++◌, length, get_or, take, sym, refl, ap, ◌∙◌, pow-suc, arith, length-append, pow_mono}
 use mir.Val.{bool_byte}
 use Rattle.std.proofs.lemmas.Nat.{div-mul-add, mod-mul-add}
-use Rattle.std.proofs.lemmas.List.{append_assoc, map_more, drop_all, drop_more, length-drop, length-take, take_all, take_rest}
-use Rattle.std.proofs.lemmas.Bool.{cases_lt}
+use Rattle.std.proofs.lemmas.List.{append_assoc, map_more, length-take, take_all}
 use Rattle.body.specs.Grids.{bit}
 use Rattle.body.specs.Solids.{one}
 use Rattle.text.specs.Scans.{row_cells, solid_byte, word_of}
@@ -25,18 +24,10 @@ pub word_below : (bs : List Bool) → word_of bs < 2 ^ length bs
 word_below [] = omega arith
 word_below (b ∷ bs) = omega (arith, word_below bs, one_below b, pow-suc 2 (length bs))
 
--- with a cell more it still fits, when there are fewer than 64
-pub word_fits : (bs : List Bool) → length bs < 64 → word_of bs * 2 + 1 < 2 ^ 64
-word_fits bs h = omega (arith, word_below bs, pow_mono {i = length bs} {j = 63} (omega arith))
-
--- one cell more at the front of what is left
-pub word_more : (xs : List Bool) (i : ℕ) → 0 < i → i ≤ length xs → word_of (drop (i - 1) xs) ≡ word_of (drop i xs) * 2 + one (get_or xs (i - 1) false)
-word_more xs i l h =
-    ap word_of (drop_more xs (i - 1) false (omega arith)) ∙ ap (λ k. word_of (drop k xs) * 2 + one (get_or xs (i - 1) false)) (omega arith)
-
--- and it fits
-pub word_more_fits : (xs : List Bool) (i : ℕ) → 0 < i → i ≤ length xs → length xs ≤ 64 → word_of (drop i xs) * 2 + 1 < 2 ^ 64
-word_more_fits xs i l h m = word_fits (drop i xs) (omega (arith, length-drop i xs))
+-- where a cell of at most 64 is ahead of those behind, their word has room for it
+pub word_fits : (ahead behind cells : List Bool) → 0 < length ahead → ahead ++ behind ≡ cells → length cells ≤ 64 → word_of behind * 2 + 1 < 2 ^ 64
+word_fits ahead behind cells some is few =
+    omega (arith, word_below behind, ap length is, length-append ahead behind, pow_mono {i = length behind} {j = 63} (omega (arith, ap length is, length-append ahead behind)))
 
 bit_none : (k : ℕ) → bit 0 k ≡ false
 bit_none zero = refl
@@ -47,18 +38,6 @@ pub bit_word : (bs : List Bool) (k : ℕ) → bit (word_of bs) k ≡ get_or bs k
 bit_word [] k = bit_none k
 bit_word (b ∷ bs) zero = ap (λ r. eqb r 1) (mod-mul-add (word_of bs) 2 (one b) (one_below b)) ∙ one_test b
 bit_word (b ∷ bs) (suc k) = ap (λ w. bit w k) (div-mul-add (word_of bs) 2 (one b) (one_below b)) ∙ bit_word bs k
-
--- a cut at no more than the length is as good
-pub drop_clipped : {A : Type 0} (xs : List A) (n : ℕ) → drop (min n (length xs)) xs ≡ drop n xs
-drop_clipped xs n = elim (cases_lt n (length xs)) [ inl h ↦ ap (λ k. drop k xs) (omega arith) | inr h ↦ drop_all (min n (length xs)) xs (omega arith) ∙ sym (drop_all n xs h) ]
-
-pub take_clipped : {A : Type 0} (xs : List A) (n : ℕ) → take (min n (length xs)) xs ≡ take n xs
-take_clipped xs n = elim (cases_lt n (length xs)) [ inl h ↦ ap (λ k. take k xs) (omega arith) | inr h ↦ take_all (min n (length xs)) xs (omega arith) ∙ sym (take_all n xs h) ]
-
-pub take_drop_clipped : {A : Type 0} (xs : List A) (from to start count : ℕ) → from ≡ min start (length xs) → to ≡ min count (length (take (length xs - from) (drop from xs))) → take (to - 0) (take (length xs - from) (drop from xs)) ≡ take count (drop start xs)
-take_drop_clipped xs from to start count f t =
-    let rest : take (length xs - from) (drop from xs) ≡ drop start xs = take_rest xs from ∙ ap (λ k. drop k xs) f ∙ drop_clipped xs start in
-    ap (λ ys. take (to - 0) ys) rest ∙ ap (λ k. take k (drop start xs)) (omega (arith, t, ap length rest)) ∙ take_clipped (drop start xs) count
 
 pub length_part : {A : Type 0} (n : ℕ) (xs part : List A) → part ≡ take n xs → length part ≤ n
 length_part n xs part e = omega (arith, ap length e ∙ length-take n xs)

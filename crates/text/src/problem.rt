@@ -1,5 +1,6 @@
 // What can be wrong with a job.
-ghost use Rattle.std.specs.Prelude.{◌≡◌};
+ghost use Rattle.std.specs.Prelude.{◌≡◌, Some};
+ghost use Rattle.text.specs.Problems.{message};
 ghost use Rattle.text.specs.declared.problem.Problem.TheVariants.{OutOfMemory as NoMemory};
 
 use std::alloc::{AllocError, AllocFailed};
@@ -22,6 +23,8 @@ pub enum Problem {
 }
 
 impl fmt::Display for Problem {
+    ghost output = { λ p. Some (message p) };
+
     fn fmt<W: fmt::Write>(&self, f: &mut fmt::Formatter<W>) -> fmt::Result {
         f.write_str(match self {
             Problem::UnknownCommand => "unknown command",

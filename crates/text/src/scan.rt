@@ -15,7 +15,7 @@ fn row_words(side: usize) -> usize
     requires { side < 2 ^ 63 }
     ensures { result ≡ row_words side }
 {
-    (side + 63) / 64
+    side.div_ceil(64)
 }
 
 // The cells, at most 64, as the bits of a word, the first the lowest.
@@ -24,8 +24,8 @@ fn word_of(cells: &[bool]) -> u64
     ensures { result ≡ word_of cells.now }
 {
     let mut word = 0;
-    for i in (0..cells.len()).rev() {
-        word = word * 2 + u64::from(cells[i]);
+    for cell in cells.iter().rev() {
+        word = word * 2 + u64::from(*cell);
     }
     word
 }
@@ -34,9 +34,8 @@ fn word_of(cells: &[bool]) -> u64
 fn part(cells: &[bool], start: usize, count: usize) -> &[bool]
     ensures { result.now ≡ take count (drop start cells.now) }
 {
-    let from = start.min(cells.len());
-    let rest = &cells[from..];
-    &rest[0..count.min(rest.len())]
+    let rest = cells.get(start..).unwrap_or(&[]);
+    rest.get(..count).unwrap_or(rest)
 }
 
 // Word n of the packing of rows of `side` cells.
@@ -59,11 +58,7 @@ pub fn pack(heap: Global, frame: Frame, cells: &[bool]) -> Result<Vec<u64>, Allo
     let side = frame.side(Axis::Z) as usize;
     let rows = frame.side(Axis::X) as usize * frame.side(Axis::Y) as usize;
     let count = rows * row_words(side);
-    let mut words = Vec::with_capacity(heap, count)?;
-    for n in 0..count {
-        words.push(word_at(cells, side, n))?;
-    }
-    Ok(words)
+    (0..count).map(|n| word_at(cells, side, n)).collect(heap)
 }
 
 // The cell that a byte of a row stands for.

@@ -26,59 +26,27 @@ pub fn number(word: &[u8]) -> Option<u64>
     Some(number)
 }
 
-// The place of the first line feed, or the length.
-fn find_feed(text: &[u8]) -> usize
-    ensures within { result ≤ length text.now }
-    ensures before { (k : ℕ) → k < result → (slice_index text.now k == 10) ≡ false }
-    ensures found { result < length text.now → (slice_index text.now result == 10) ≡ true }
-{
-    for (i, byte) in text.iter().enumerate() {
-        if *byte == b'\n' {
-            return i;
-        }
-    }
-    text.len()
-}
-
 fn is_blank(byte: u8) -> bool
     ensures { result ≡ blank byte }
 {
     byte == b' ' || byte == b'\t'
 }
 
-// The place of the first byte that is blank, or that is not, or the length.
-fn find_blank(line: &[u8], wanted: bool) -> usize
-    ensures within { result ≤ length line.now }
-    ensures before { (k : ℕ) → k < result → blank (slice_index line.now k) ≢ wanted }
-    ensures found { result < length line.now → blank (slice_index line.now result) ≡ wanted }
-{
-    for (i, byte) in line.iter().enumerate() {
-        if is_blank(*byte) == wanted {
-            return i;
-        }
-    }
-    line.len()
-}
-
 // The first word of a line, and what comes behind it.
 pub fn next_word(line: &[u8]) -> Option<(&[u8], &[u8])>
     ensures { MatchOption result (words_of line.now ≡ []) (λ p. words_of line.now ≡ p.0.now ∷ words_of p.1.now) }
 {
-    let (_, rest) = line.split_at(find_blank(line, false));
-    if rest.is_empty() {
-        return None;
-    }
-    Some(rest.split_at(find_blank(rest, true)))
+    let start = line.iter().position(|byte| !is_blank(*byte))?;
+    let rest = &line[start..];
+    let end = rest.iter().position(|byte| is_blank(*byte));
+    Some(rest.split_at(end.unwrap_or(rest.len())))
 }
 
 // A line without the carriage return at its end.
 fn chomp(line: &[u8]) -> &[u8]
     ensures { result.now ≡ chomped line.now }
 {
-    let Some((last, front)) = line.split_last() else {
-        return line;
-    };
-    if *last == b'\r' { front } else { line }
+    line.strip_suffix(b"\r").unwrap_or(line)
 }
 
 // The first line of a text that is not empty, and what comes behind it.
@@ -87,14 +55,14 @@ fn split_line(text: &[u8]) -> (&[u8], &[u8])
     ensures lines { lines_of text.now ≡ result.0.now ∷ lines_of result.1.now }
     ensures shorter { length result.1.now < length text.now }
 {
-    let (line, rest) = text.split_at(find_feed(text));
-    match rest.split_first() {
-        Some((_, after)) => (chomp(line), after),
-        None => (line, rest),
+    match text.iter().position(|byte| *byte == b'\n') {
+        Some(feed) => (chomp(&text[..feed]), &text[feed + 1..]),
+        None => (text, &[]),
     }
 }
 
-// What is left of a text, and how many of its lines have been taken.
+// What is left of a text, and how many of its lines have been taken. No Iterator: a scan takes lines
+// of its own between two of a job's, so no `for` or chain could go over a text.
 #[derive(Clone, Copy)]
 pub struct Text<'a> {
     rest: &'a [u8],

@@ -1,30 +1,15 @@
-use Rattle.std.proofs.Common.{sym, subst, rules}
-use Rattle.text.specs.Texts.{words_of}
-use Rattle.script.specs.declared.call.Call.{Call}
-use Rattle.job.specs.Jobs.{SaysAlone}
-use Rattle.job.proofs.Refusing.{refused_by}
+use Rattle.std.proofs.Common.{rules}
+use Rattle.job.proofs.Refusing.{refused_in}
 use Rattle.job.proofs.line.read_command.Goals as goal
 
-pub returns-in_err-x-in-Frame : goal.returns-in_err-x-in-Frame
-returns-in_err-x-in-Frame c = record {
-  says = search rules;
-  none = refused_by _ c.from_residual.result c.from_residual.ensures.1 (λ _ _. subst (λ k. (d : Call) → SaysAlone k (words_of c.args.line.now) d → ⊥) (sym c.in-Frame.is) (λ _ l. c.in_err-x-in-Frame.ensures.none _ _ _ l.3));
-}
+pub returns-in-Frame-clause-none : goal.returns-in-Frame-clause-none
+returns-in-Frame-clause-none c = rw c.in-Frame.is (refused_in _ _ c.three_numbers.result c.map.result (search rules) (λ _ none _ l. none _ _ _ l.3) c.three_numbers.ensures.none)
 
-pub returns-in_err-x-in-Find : goal.returns-in_err-x-in-Find
-returns-in_err-x-in-Find c = record {
-  says = search rules;
-  none = refused_by _ c.from_residual-in_err-x-in-Find.result c.from_residual-in_err-x-in-Find.ensures.1 (λ _ _. subst (λ k. (d : Call) → SaysAlone k (words_of c.args.line.now) d → ⊥) (sym c.in-Find.is) (λ _ l. c.in_err-x-in-Find.ensures.none _ _ _ l.3));
-}
+pub returns-in-Table-clause-none : goal.returns-in-Table-clause-none
+returns-in-Table-clause-none c = rw c.in-Table.is c.read_table.ensures.none
 
-pub returns-in_err-read_table-in-Table : goal.returns-in_err-read_table-in-Table
-returns-in_err-read_table-in-Table c = record {
-  says = search rules;
-  none = refused_by _ c.from_residual-in_err-read_table-in-Table.result c.from_residual-in_err-read_table-in-Table.ensures.1 (λ _ _. subst (λ k. (d : Call) → SaysAlone k (words_of c.args.line.now) d → ⊥) (sym c.in-Table.is) c.in_err-read_table-in-Table.ensures.none);
-}
+pub returns-in-Find-clause-none : goal.returns-in-Find-clause-none
+returns-in-Find-clause-none c = rw c.in-Find.is (refused_in _ _ c.three_numbers-in-Find.result c.map-in-Find.result (search rules) (λ _ none _ l. none _ _ _ l.3) c.three_numbers-in-Find.ensures.none)
 
-pub returns-in_err-read_neighbour-in-Neighbour : goal.returns-in_err-read_neighbour-in-Neighbour
-returns-in_err-read_neighbour-in-Neighbour c = record {
-  says = search rules;
-  none = refused_by _ c.from_residual-in_err-read_neighbour-in-Neighbour.result c.from_residual-in_err-read_neighbour-in-Neighbour.ensures.1 (λ _ _. subst (λ k. (d : Call) → SaysAlone k (words_of c.args.line.now) d → ⊥) (sym c.in-Neighbour.is) c.in_err-read_neighbour-in-Neighbour.ensures.none);
-}
+pub returns-in-Neighbour-clause-none : goal.returns-in-Neighbour-clause-none
+returns-in-Neighbour-clause-none c = rw c.in-Neighbour.is c.read_neighbour.ensures.none

@@ -4,9 +4,9 @@ use Rattle.job.specs.Jobs.{Later, Rows, left}
 use Rattle.text.specs.Scans.{row_cells}
 use Rattle.job.proofs.reader.read_rows.Given as goal
 
-abbrev pub invariant-loop-i : goal.invariant-loop-i
-invariant-loop-i l =
+abbrev pub invariant-loop : goal.invariant-loop
+invariant-loop l =
     Later l.initial.text l.text
-    × Rows l._i l.side (left l.initial.text)
-    × (vec_items l.cells ≡ flat_map row_cells (take l._i (left l.initial.text)))
-    × (left l.text ≡ drop l._i (left l.initial.text))
+    × Rows l.counter l.side (left l.initial.text)
+    × (vec_items l.cells ≡ flat_map row_cells (take l.counter (left l.initial.text)))
+    × (left l.text ≡ drop l.counter (left l.initial.text))

@@ -1,21 +1,15 @@
-use Rattle.std.proofs.Common.{arith}
+use Rattle.std.proofs.Common.{◌==◌, sym, ◌∙◌, rules, tests}
+use Rattle.std.proofs.lemmas.Iterator.{YieldsList-from_slice}
+use Rattle.std.proofs.lemmas.Iterator.Search.{position_from_yields_List}
 use Rattle.text.proofs.Reading.{line_fed, line_last}
 use Rattle.text.proofs.text.split_line.Goals as goal
 
-pub returns-in-Some : goal.returns-in-Some
-returns-in-Some c =
-    let cut = c.split_at.ensures in
-    let first = c.in-Some.ensures.cases in
-    record {
-      lines = line_fed _ _ _ _ c.find_feed.ensures.within c.find_feed.ensures.before cut.front cut.back _ _ _ c.find_feed.ensures.found first.0 c.chomp.ensures;
-      shorter = omega (arith, first.1, cut.back_len);
-    }
+pub returns-in-Some-clause-lines : goal.returns-in-Some-clause-lines
+returns-in-Some-clause-lines c =
+    let feed = position_from_yields_List (λ b. b == 10) _ _ c.position.result c.position.ensures.ran (YieldsList-from_slice _ c.iter.ensures.rest) (λ x b q k. search (rules, tests)) in
+    line_fed c.args.text.now _ _ (sym feed ∙ c.in-Some.is) c.chomp.ensures
 
-pub returns-in-None : goal.returns-in-None
-returns-in-None c =
-    let cut = c.split_at.ensures in
-    let none = c.in-None.ensures.cases in
-    record {
-      lines = line_last _ _ _ _ c.find_feed.ensures.within c.find_feed.ensures.before cut.front cut.back c.requires none;
-      shorter = omega (arith, none, c.requires);
-    }
+pub returns-in-None-clause-lines : goal.returns-in-None-clause-lines
+returns-in-None-clause-lines c =
+    let feed = position_from_yields_List (λ b. b == 10) _ _ c.position.result c.position.ensures.ran (YieldsList-from_slice _ c.iter.ensures.rest) (λ x b q k. search (rules, tests)) in
+    line_last c.args.text.now c.requires (sym feed ∙ c.in-None.is)
