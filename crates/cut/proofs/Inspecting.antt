@@ -5,7 +5,7 @@ use Rattle.geometry.specs.declared.axis.AxisOrder.{AxisOrder}
 use Rattle.geometry.specs.declared.refusal.Refusal.{Refusal}
 use Rattle.geometry.specs.declared.refusal.Refusal.TheVariants.{BoxesFull, TableShort}
 use Rattle.tables.specs.Tables.{capacity, overlay}
-use Rattle.tables.proofs.Writing.{take_overlay}
+use Rattle.tables.proofs.Placing.{take_overlay}
 use Rattle.body.specs.Solids.{Solid, solid_cells}
 use Rattle.boxes.specs.Measures.{volume_of}
 use Rattle.cut.specs.Asks.{volume_answer}

@@ -34,7 +34,7 @@ given_is r s x y z words made a =
     meant_is r s words a ∙ ap (λ t. within t words) made.1 ∙ sym (ap (λ b. cond b (within (sides_given x y z) words) (Err FrameSide)) made.0)
 
 -- what the cut of a given grid answers and leaves
-pub cut_is : (m : Solid) (o : AxisOrder) (given : Result Solid Refusal) (table after : List BoxRecord) (used : Option ℕ) (r : Result ℕ Refusal) → Ok m ≡ given → ◌≡◌ {A = Written BoxRecord} (record { used = used; table = after }) (filled (cut_list m o) table) → r ≡ ok_or used BoxesFull → ◌≡◌ {A = Outcome} (record { answer = answer_of r; table = after }) (cut_given (Some o) given table)
+pub cut_is : (m : Solid) (o : AxisOrder) (given : Result Solid Refusal) (table after : List BoxRecord) (used : Option ℕ) (r : Result ℕ Refusal) → Ok m ≡ given → ◌≡◌ {A = Written BoxRecord} (record { count = used; table = after }) (filled (cut_list m o) table) → r ≡ ok_or used BoxesFull → ◌≡◌ {A = Outcome} (record { answer = answer_of r; table = after }) (cut_given (Some o) given table)
 cut_is m o given table after used r made wrote is =
     ap (λ w. record { answer = answer_of w.answer; table = w.table }) (cut_outcome_is m o table after used r wrote is) ∙ ap (λ g. cut_given (Some o) g table) made
 

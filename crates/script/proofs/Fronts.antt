@@ -6,7 +6,7 @@ use Rattle.geometry.specs.declared.frame.Point.{Point}
 use Rattle.geometry.specs.declared.refusal.Refusal.{Refusal}
 use Rattle.geometry.specs.declared.refusal.Refusal.TheVariants.{BoxesFull, CornersFull}
 use Rattle.tables.specs.Tables.{capacity, overlay}
-use Rattle.tables.proofs.Writing.{take_overlay}
+use Rattle.tables.proofs.Placing.{take_overlay}
 use Rattle.body.specs.Solids.{Solid}
 use Rattle.body.specs.Corners.{ListingOutcome, corner_list, corners_outcome}
 use Rattle.boxes.specs.Records.{CutOutcome, cut_list, cut_outcome}
