@@ -13,7 +13,7 @@ use geometry::frame::{Cell, Frame};
 use geometry::refusal::Refusal;
 
 // The number of words of a row of cells along z.
-fn row_words(frame: Frame) -> usize
+pub fn row_words(frame: Frame) -> usize
     ensures value { result ≡ row_words (sides frame Z) }
     ensures bound { result ≤ 16 }
 {
@@ -21,7 +21,7 @@ fn row_words(frame: Frame) -> usize
 }
 
 // The number of rows along z.
-fn rows(frame: Frame) -> usize
+pub fn rows(frame: Frame) -> usize
     ensures value { result ≡ sides frame X * sides frame Y }
     ensures bound { result ≤ 2 ^ 20 }
 {

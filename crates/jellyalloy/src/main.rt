@@ -1,21 +1,8 @@
 // Reads a job from standard input, carries it out and prints its answers.
 #![tactic(auto)]
 
-use anyhow::anyhow;
-use report::carry::{Failure, carry_out};
-use std::io::Read;
+use report::program::run_job;
 
 fn main(rt: HostRuntime) -> anyhow::Result<()> {
-    let mut text = Vec::new(rt.alloc());
-    rt.stdin().read_to_end(&mut text)?;
-    match carry_out(rt.alloc(), text.as_slice()) {
-        Ok(output) => {
-            print!(rt; "{output}")?;
-            Ok(())
-        }
-        Err(failure) => {
-            eprintln!(rt; "{failure}")?;
-            Err(anyhow!("the job was not carried out"))
-        }
-    }
+    run_job(&rt)
 }

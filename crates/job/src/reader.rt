@@ -16,6 +16,7 @@ ghost use Rattle.job.specs.declared.reader.Keyword.TheVariants as keywords;
 ghost use Rattle.script.specs.declared.call.Call.TheVariants.{Make};
 
 use crate::line::{Command, end_line, last_number, read_command};
+use body::grid::rows;
 use geometry::axis::Axis;
 use geometry::frame::Frame;
 use script::call::{Call, MakeCall};
@@ -171,13 +172,8 @@ impl<'a> Reader<'a> {
     {
         end_line(line)?;
         let frame = self.frame.ok_or(Problem::NoFrame)?;
-        let rows = frame.side(Axis::X) as usize * frame.side(Axis::Y) as usize;
-        let cells = read_rows(
-            self.heap,
-            &mut self.text,
-            rows,
-            frame.side(Axis::Z) as usize,
-        )?;
+        let side = usize::from(frame.side(Axis::Z));
+        let cells = read_rows(self.heap, &mut self.text, rows(frame), side)?;
         Ok(Call::Make(MakeCall::Grid(pack(self.heap, frame, cells.as_slice())?)))
     }
 

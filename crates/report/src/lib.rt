@@ -3,3 +3,4 @@
 
 pub mod carry;
 pub mod output;
+pub mod program;

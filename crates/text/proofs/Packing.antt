@@ -31,11 +31,7 @@ packed_word_from side cells n w count part v m p =
     ∙ ap (λ k. word_of (take k (drop (n / w * side + n % w * 64) cells))) m
     ∙ sym (packed_word_at side cells n (n / w) (n % w) (ap (λ u. n / u) (sym v)) (ap (λ u. n % u) (sym v)))
 
--- how many words a frame takes, as it is worked out, and that they are few
-pub words_counted : (s : Axis → ℕ) (x y z w : ℕ) → x ≡ s X → y ≡ s Y → z ≡ s Z → w ≡ row_words z → x * y * w ≡ words_needed s
-words_counted s x y z w ex ey ez ew =
-    ap (λ v. x * y * v) (ew ∙ ap row_words ez) ∙ ap (λ a. a * y * row_words (s Z)) ex ∙ ap (λ b. s X * b * row_words (s Z)) ey
-
+-- a frame takes few words
 pub words_few : (s : Axis → ℕ) → s X ≤ 1024 → s Y ≤ 1024 → s Z ≤ 1024 → words_needed s ≤ 16777216
 words_few s hx hy hz = omega (arith, mul-le (s X * s Y) (row_words (s Z)) (1024 * 1024) 16 (mul-le (s X) (s Y) 1024 1024 hx hy) (omega arith))
 

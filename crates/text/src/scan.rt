@@ -1,22 +1,16 @@
 // Scans: the cells of a frame one by one, and their packing into words.
 ghost use Rattle.std.specs.Prelude.{◌≡◌, ◌^◌, ◌<◌, ◌≤◌, true, ◌++◌, length, take, drop, IfOk, IfErr, vec_len, OnErr, OnOk, ◌≢◌};
-ghost use Rattle.body.specs.Grids.{packed, row_words, words_needed};
+ghost use Rattle.body.specs.Grids.{packed, words_needed};
 ghost use Rattle.geometry.specs.Frames.{sides};
+ghost use Rattle.geometry.specs.declared.axis.Axis.TheVariants.{Z};
 ghost use Rattle.text.specs.Problems.{Fault};
 ghost use Rattle.text.specs.Scans.{Row, cell_byte, packed_word, row_cells, scanned, solid_byte, word_of};
 
 use crate::problem::Problem;
+use body::grid::{row_words, rows};
 use geometry::axis::Axis;
 use geometry::frame::Frame;
 use std::alloc::{AllocError, Global};
-
-// The number of words that a row of cells takes.
-fn row_words(side: usize) -> usize
-    requires { side < 2 ^ 63 }
-    ensures { result ≡ row_words side }
-{
-    side.div_ceil(64)
-}
 
 // The cells, at most 64, as the bits of a word, the first the lowest.
 fn word_of(cells: &[bool]) -> u64
@@ -38,13 +32,13 @@ fn part(cells: &[bool], start: usize, count: usize) -> &[bool]
     rest.get(..count).unwrap_or(rest)
 }
 
-// Word n of the packing of rows of `side` cells.
-fn word_at(cells: &[bool], side: usize, n: usize) -> u64
-    requires side { (0 < side) × (side ≤ 1024) }
-    requires place { n < 2 ^ 24 }
-    ensures { result ≡ packed_word side cells.now n }
+// Word n of the packing of rows of a frame's cells.
+fn word_at(cells: &[bool], frame: Frame, n: usize) -> u64
+    requires { n < 2 ^ 24 }
+    ensures { result ≡ packed_word (sides frame Z) cells.now n }
 {
-    let in_row = row_words(side);
+    let side = usize::from(frame.side(Axis::Z));
+    let in_row = row_words(frame);
     let first = n % in_row * 64;
     word_of(part(cells, n / in_row * side + first, (side - first).min(64)))
 }
@@ -55,10 +49,8 @@ pub fn pack(heap: Global, frame: Frame, cells: &[bool]) -> Result<Vec<u64>, Allo
     ensures meaning { IfOk result (λ v. packed (sides frame) v.items ≡ scanned (sides frame) cells.now) }
     ensures len { IfOk result (λ v. vec_len v ≡ words_needed (sides frame)) }
 {
-    let side = frame.side(Axis::Z) as usize;
-    let rows = frame.side(Axis::X) as usize * frame.side(Axis::Y) as usize;
-    let count = rows * row_words(side);
-    (0..count).map(|n| word_at(cells, side, n)).collect(heap)
+    let count = rows(frame) * row_words(frame);
+    (0..count).map(|n| word_at(cells, frame, n)).collect(heap)
 }
 
 // The cell that a byte of a row stands for.
