@@ -41,7 +41,8 @@ fn is_corner<B: Body>(body: &B, x: u16, y: u16, z: u16) -> bool
     changes(|k| odd_four(body, x, y, k), z)
 }
 
-// The corners with given x and y, by z.
+// The corners with given x and y, by z. (One type for each level of the walk, though they are alike: each
+// has other entries, and a law of its own for the planes that are passed over.)
 #[derive(Drop)]
 struct RowCorners<'a, B: Body> {
     view: &'a View<'a, B>,

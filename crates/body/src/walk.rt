@@ -11,7 +11,7 @@ use geometry::axis::{Axis, AxisOrder};
 pub const PLANES: usize = 1024;
 
 // The skips along an axis, by plane, and the side: the entries behind it mean nothing. Each skip goes to
-// a later plane, at most the side.
+// a later plane, at most the side. (An array and a length: there is no heap here.)
 #[derive(Drop)]
 pub struct SkipTable {
     pub side: u16,

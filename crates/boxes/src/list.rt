@@ -84,7 +84,7 @@ fn write_found(found: Option<BoxRecord>, table: &mut [BoxRecord]) -> Option<usiz
 }
 
 // Writes the boxes whose lowest cell lies in a row to the front of the table. The row is walked run by
-// run, so that none of its cells is asked about twice.
+// run, so that none of its cells is asked about twice. (A `while`: a step goes to the next run.)
 fn write_row<'a, B: Body>(
     view: &'a View<'a, B>,
     a: u16,
@@ -105,7 +105,8 @@ fn write_row<'a, B: Body>(
     Some(used)
 }
 
-// The boxes whose lowest cell lies in a plane across A.
+// The boxes whose lowest cell lies in a plane across A. (A type of its own beside `BodyBoxes`: it has other
+// entries, and a law of its own for the planes that are passed over.)
 #[derive(Drop)]
 struct PlaneBoxes<'a, B: Body> {
     view: &'a View<'a, B>,

@@ -22,7 +22,8 @@ pub(crate) fn point_along(order: AxisOrder, a: u16, b: u16, c: u16) -> Point
     }
 }
 
-// The cells of a row, along C.
+// The cells of a row, along C. (Rows, runs and plates are three types, though they are alike: each tests
+// another fact, and has a law of its own for what a jump passes over.)
 #[derive(Drop)]
 pub(crate) struct Row<'a, B: Body> {
     pub view: &'a View<'a, B>,

@@ -12,7 +12,8 @@ use geometry::refusal::Refusal;
 pub mod make;
 
 // A body that has been cut, with the order and the number of its boxes. It holds the body until it is
-// reopened.
+// reopened. (Its boxes stand in the caller's table, since there is no heap here; so a cut has their number
+// alone.)
 #[derive(Drop)]
 pub struct Cut<B> {
     body: B,

@@ -4,7 +4,7 @@ ghost use Rattle.exports.specs.Exports.{answer_of, no_order};
 
 use geometry::refusal::Refusal;
 
-// A number with refusal 0, or the number of a refusal with number 0.
+// A number with refusal 0, or the number of a refusal with number 0. (No Result: C reads it.)
 #[derive(Clone, Copy)]
 #[repr(C)]
 pub struct Answer {

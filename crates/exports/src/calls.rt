@@ -22,7 +22,7 @@ const ORDERS: [AxisOrder; 6] = [
     AxisOrder::Zyx,
 ];
 
-// The order with a number.
+// The order with a number. (A number and no enum: C passes it.)
 fn order_numbered(number: u8) -> Option<AxisOrder>
     ensures { result ≡ numbered number }
 {

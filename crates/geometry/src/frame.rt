@@ -59,7 +59,8 @@ pub struct Frame {
 // The largest side, and the largest coordinate of a point in a frame.
 pub const LARGEST_SIDE: u16 = 1024;
 
-// A number as a side, if it is one.
+// A number as a side, if it is one. (Beside `step` of shifts and `range` of boxes: one generic test would
+// take the bounds, the conversion and the refusal as parameters, and have no fewer lines.)
 fn side(n: u64) -> Result<u16, Refusal>
     ensures { Answers result (side_ok n) (λ s. s ≡ n) FrameSide }
 {

@@ -33,7 +33,7 @@ pub enum Refusal {
 }
 
 impl Refusal {
-    // The number of the refusal.
+    // The number of the refusal. (No From: `u8::from` would not say that it is the one that is shown.)
     pub fn number(self) -> u8
         ensures { result ≡ number_of self }
     {

@@ -19,7 +19,8 @@ pub struct Volumes {
     pub intersection: u32,
 }
 
-// Whether two frames have the same sides.
+// Whether two frames have the same sides. (No derived ==: that compares what is stored, not what it reads
+// as.)
 fn same_frame(first: Frame, second: Frame) -> bool
     ensures { result ≡ same_sides (sides first) (sides second) }
 {

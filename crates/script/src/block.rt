@@ -115,6 +115,7 @@ pub(crate) fn cut_block<'a, B: Body + Drop>(
 {
     match cut(body, order, context.boxes.as_mut_slice()) {
         Ok(standing) => {
+            // a cut has to be reopened, also where an error is handed on
             let left = ask_cut(&standing, calls, context);
             standing.reopen();
             left

@@ -13,13 +13,15 @@ pub enum Kind {
 }
 
 // How a call went, by its answer.
-fn way_of(answer: &Answer) -> Kind
-    ensures { result ≡ kind_of (reply_of answer.now) }
-{
-    match answer {
-        Answer::Refused(_, _) | Answer::Overfull(_, _, _) => Kind::Refused,
-        Answer::NotTaken(_) => Kind::NotTaken,
-        _ => Kind::Granted,
+impl From<&Answer> for Kind {
+    ghost from_gives = { λ answer kind. kind ≡ kind_of (reply_of answer.now) };
+
+    fn from(answer: &Answer) -> Kind {
+        match answer {
+            Answer::Refused(_, _) | Answer::Overfull(_, _, _) => Kind::Refused,
+            Answer::NotTaken(_) => Kind::NotTaken,
+            _ => Kind::Granted,
+        }
     }
 }
 
@@ -27,7 +29,7 @@ fn way_of(answer: &Answer) -> Kind
 fn went(answer: &Answer, way: Kind) -> bool
     ensures { result ≡ same_kind (kind_of (reply_of answer.now)) way }
 {
-    way_of(answer) == way
+    Kind::from(answer) == way
 }
 
 // The number of calls that went one way.

@@ -36,7 +36,8 @@ pub fn write_one<E: Copy>(entry: E, table: &mut [E]) -> Option<usize>
     Some(1)
 }
 
-// Writes all planes to the front of the table, and stops where it is full.
+// Writes all planes to the front of the table, and stops where it is full. (Here and in other walks a
+// `while`: a step goes as far as the listing says, which no range and no iterator of the library does.)
 pub fn write_all<E: Copy, L: Listing<E>>(listing: &L, table: &mut [E]) -> Option<usize>
     ensures { record { count = result; table = table.new } ≡ placed (listed (L.part listing.now) (L.parts listing.now) 0) table.old }
 {
