@@ -126,10 +126,6 @@ module _ (s : Axis → ℕ) (table : List Point) (count : ℕ) where
   unfolding list_refusal
   refusal_within h = ap (λ b. cond b (points_refusal s (take count table)) (Some CountOver)) (le-leb count (capacity table) h)
 
-  pub refusal_over : capacity table < count → list_refusal s table count ≡ Some CountOver
-  unfolding list_refusal
-  refusal_over h = ap (λ b. cond b (points_refusal s (take count table)) (Some CountOver)) (lt-leb count (capacity table) h)
-
   counted : (b : Bool) → leb count (capacity table) ≡ b → cond b (points_refusal s (take count table)) (Some CountOver) ≡ None → (count ≤ capacity table) × Lawful s (take count table)
   counted true h e = (leb-true count (capacity table) h, points_passed s (take count table) e)
   counted false h e = absurd (refused CountOver e)

@@ -76,10 +76,6 @@ pub rows_total_le : (words : List ℕ) (width side rows : ℕ) → side ≤ 1024
 rows_total_le words width side rows h =
     total_le (λ row. row_total words (row * width) side) 1024 (λ row. omega (arith, row_total_le words (row * width) side)) rows
 
-pub rows_total_more : (words : List ℕ) (width side row count more : ℕ) → count ≡ rows_total words width side row → more ≡ row_total words (row * width) side
-    → count + more ≡ rows_total words width side (row + 1)
-rows_total_more words width side row count more so_far is = ap₂ (λ (x y : ℕ). x + y) so_far is ∙ ap (rows_total words width side) (sym (add-one row))
-
 -- all rows hold the solid cells of the grid
 pub solid_by_rows : (s : Axis → ℕ) (words : List ℕ) (width side rows count : ℕ) → width ≡ row_words (s Z) → side ≡ s Z → rows ≡ s X * s Y
     → count ≡ rows_total words width side rows → count ≡ solid_cells (packed s words)

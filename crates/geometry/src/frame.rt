@@ -72,7 +72,8 @@ fn side(n: u64) -> Result<u16, Refusal>
 }
 
 impl Frame {
-    // A frame with these sides.
+    // A frame with these sides. (Three numbers and no struct, here as for boxes and shifts: they are any
+    // numbers until the call has judged them.)
     pub fn new(x: u64, y: u64, z: u64) -> Result<Frame, Refusal>
         ensures { Answers result (sides_ok x y z) (λ f. sides f ≡ sides_given x y z) FrameSide }
     {

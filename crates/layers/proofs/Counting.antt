@@ -52,10 +52,6 @@ one_byte b true e = ap bool_byte e
 one_byte b false e = ap bool_byte e
 
 module _ (m : Solid) where
-  -- the numbers of the planes that a skip passes over are equal
-  pub steady_z : (i j p q : ℕ) → Skips m Z p q → (n : ℕ) → p ≤ n → n < q → one (m.holds i j n) ≡ one (m.holds i j p)
-  steady_z i j p q s n a b = ap one (s.equal n i j a b)
-
   pub steady_y : (i p q : ℕ) → Skips m Y p q → (n : ℕ) → p ≤ n → n < q → row_cells m i n ≡ row_cells m i p
   steady_y i p q s n a b = ap (λ f. total f (m.side Z)) (fun_ext (λ k. ap one (s.equal n k i a b)))
 

@@ -7,9 +7,6 @@ use Rattle.body.specs.Solids.{Inside, Skips, Solid, section}
 use Rattle.layers.specs.declared.join.Join.{Join}
 use Rattle.layers.specs.Layers.{complement, framed, join_of, joined, joined_skip}
 
-pub framed_inside : (s : Axis → ℕ) (g : ℕ → ℕ → ℕ → Bool) → Inside (framed s g)
-framed_inside s g i j k e = and_left _ _ e
-
 -- within the side, the sections of a framed solid are equal where those of g are
 framed_section : (s : Axis → ℕ) (g : ℕ → ℕ → ℕ → Bool) (a : Axis) (n p u v : ℕ) → n < s a → p < s a
     → section a g n u v ≡ section a g p u v → section a (framed s g).holds n u v ≡ section a (framed s g).holds p u v
