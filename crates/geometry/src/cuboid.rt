@@ -1,14 +1,16 @@
 // Boxes of cells between a lower and an upper point.
-ghost use Rattle.std.specs.Prelude.{◌≡◌};
+ghost use Rattle.std.specs.Prelude.{◌≡◌, Some};
 ghost use Rattle.geometry.specs.Cuboids.{bounds_ok, range_ok, lowers, uppers, in_box};
 ghost use Rattle.geometry.specs.Frames.{sides_given};
 ghost use Rattle.geometry.specs.Refusals.{Answers};
+ghost use Rattle.geometry.specs.Words.{cuboid_text};
 ghost use Rattle.geometry.specs.declared.axis.Axis.TheVariants.{X, Y, Z};
 ghost use Rattle.geometry.specs.declared.refusal.Refusal.TheVariants.{BoxBounds};
 
 use crate::axis::Axis;
 use crate::frame::{Cell, LARGEST_SIDE, Point};
 use crate::refusal::Refusal;
+use std::fmt;
 
 // The cells at or above the lower point and below the upper one, in all three coordinates. Stored
 // numbers read as the nearest that bound at least one cell and pass 1,024 nowhere, so that every
@@ -96,5 +98,16 @@ impl Cuboid {
         let along_y = low.y <= cell.y && cell.y < high.y;
         let along_z = low.z <= cell.z && cell.z < high.z;
         along_x & along_y & along_z
+    }
+}
+
+// A box by its lower and its upper point, as (0 0 0)-(1 2 2).
+impl fmt::Display for Cuboid {
+    ghost output = { λ b. Some (cuboid_text b) };
+
+    fn fmt<W: fmt::Write>(&self, f: &mut fmt::Formatter<W>) -> fmt::Result {
+        let low = self.lower();
+        let high = self.upper();
+        write!(f, "{low}-{high}")
     }
 }

@@ -4,10 +4,10 @@ use Rattle.std.specs.List.{flat_map}
 use Rattle.std.specs.Option.{option_map}
 use Rattle.std.specs.declared.alloc.Global.{Global}
 use Rattle.geometry.specs.Frames.{sides}
+pub use Rattle.geometry.specs.Words.{order_word}
 use Rattle.geometry.specs.declared.axis.Axis.{Axis}
 use Rattle.geometry.specs.declared.axis.Axis.TheVariants.{X, Y, Z}
 use Rattle.geometry.specs.declared.axis.AxisOrder.{AxisOrder}
-use Rattle.geometry.specs.declared.axis.AxisOrder.TheVariants.{Xyz, Xzy, Yxz, Yzx, Zxy, Zyx}
 use Rattle.body.specs.Grids.{packed, words_needed}
 use Rattle.cut.specs.declared.asks.Sense.{Sense}
 use Rattle.cut.specs.declared.asks.Sense.TheVariants.{AForward, ABackward, BForward, BBackward}
@@ -30,7 +30,7 @@ use Rattle.job.specs.declared.reader.Keyword.{Keyword}
 use Rattle.job.specs.declared.reader.Keyword.TheVariants as keywords
 use Rattle.job.specs.declared.reader.Reader.{Reader}
 
--- the words for commands, keywords, tables, axis orders and senses
+-- the words for commands, keywords, tables and senses; those for axis orders are geometry's
 abbrev pub command_word : Command → List ℕ
 command_word commands.Frame = codes "frame"
 command_word commands.Table = codes "table"
@@ -51,14 +51,6 @@ keyword_word (keywords.Alone c) = command_word c
 abbrev pub table_word : Table → List ℕ
 table_word tables.Corners = codes "corners"
 table_word tables.Boxes = codes "boxes"
-
-abbrev pub order_word : AxisOrder → List ℕ
-order_word Xyz = codes "XYZ"
-order_word Xzy = codes "XZY"
-order_word Yxz = codes "YXZ"
-order_word Yzx = codes "YZX"
-order_word Zxy = codes "ZXY"
-order_word Zyx = codes "ZYX"
 
 abbrev pub sense_word : Sense → List ℕ
 sense_word AForward = codes "A+"

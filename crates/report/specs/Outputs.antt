@@ -3,54 +3,32 @@ use Rattle.std.specs.Prelude.{◌≡◌, ℕ, ◌+◌, ◌*◌, List, [], ◌∷
 use Rattle.std.specs.List.{flat_map}
 use Rattle.std.specs.Option.{option_map}
 use Rattle.geometry.specs.Refusals.{number_of}
+use Rattle.geometry.specs.Words.{cuboid_text, order_word, point_text}
 use Rattle.geometry.specs.declared.frame.Point.{Point}
-use Rattle.geometry.specs.declared.axis.Axis.TheVariants.{X, Y, Z}
-use Rattle.body.specs.Corners.{point}
-use Rattle.boxes.specs.Measures.{high, low}
 use Rattle.boxes.specs.declared.record.BoxRecord.{BoxRecord}
-use Rattle.job.specs.Jobs.{Reads, order_word}
+use Rattle.job.specs.Jobs.{Reads}
 use Rattle.text.specs.Texts.{lines_of}
 use Rattle.script.specs.Scripts.{Reply, World, block_of, boxed, counted, held_by, inspection, listed, measured, next, not_taken, overfull, ran, refused, reopened, reply_of, size_of}
 use Rattle.script.specs.Tallies.{how_many}
+use Rattle.script.specs.Words.{word_of_call}
 use Rattle.script.specs.declared.call.Answer.{Answer}
 use Rattle.script.specs.declared.session.BlockSize.{BlockSize}
 use Rattle.script.specs.declared.session.Report.{Report}
 use Rattle.script.specs.declared.tally.Kind.TheVariants.{Granted, Refused, NotTaken}
 use Rattle.script.specs.declared.call.Call.{Call}
-use Rattle.script.specs.declared.call.CallName.{CallName}
-use Rattle.script.specs.declared.call.CallName.TheVariants as names
-use Rattle.script.specs.declared.call.BlockCall.TheVariants.{Count, Corners, Inspect}
-use Rattle.script.specs.declared.call.CutCall.TheVariants.{Volume, Find, Neighbour, Reopen}
 
--- a point as (x y z), and in a line of its own
-abbrev pub point_text : Point → List ℕ
-point_text p = codes "(" ++ (decimal p.x ++ (codes " " ++ (decimal p.y ++ (codes " " ++ (decimal p.z ++ codes ")")))))
-
+-- a point in a line of its own
 abbrev pub point_line : Point → List ℕ
 point_line p = point_text p ++ codes "\n"
 
 -- a box with its number, as 1: (0 0 0)-(1 2 2), in a line of its own
 abbrev pub box_line : ℕ → BoxRecord → List ℕ
-box_line n r =
-    decimal n ++ (codes ": " ++ (point_text (point (low r X) (low r Y) (low r Z)) ++ (codes "-" ++ (point_text (point (high r X) (high r Y) (high r Z)) ++ codes "\n"))))
+box_line n r = decimal n ++ (codes ": " ++ (cuboid_text r.cuboid ++ codes "\n"))
 
 -- boxes with the numbers from n on
 abbrev pub box_lines : ℕ → List BoxRecord → List ℕ
 box_lines n [] = []
 box_lines n (r ∷ l) = box_line n r ++ box_lines (n + 1) l
-
--- the word that a call has in a job, with its axis order
-abbrev pub word_of_call : CallName → List ℕ
-word_of_call names.Frame = codes "frame"
-word_of_call names.Grid = codes "grid"
-word_of_call (names.Block Count) = codes "count"
-word_of_call (names.Block Corners) = codes "corners"
-word_of_call (names.Block (Inspect o)) = codes "inspect " ++ order_word o
-word_of_call (names.Cut o) = codes "cut " ++ order_word o
-word_of_call (names.Question Volume) = codes "volume"
-word_of_call (names.Question (Find x y z)) = codes "find"
-word_of_call (names.Question (Neighbour u s m)) = codes "neighbour"
-word_of_call (names.Question Reopen) = codes "reopen"
 
 -- the number of a box, or that there is none
 abbrev pub number_text : Option ℕ → List ℕ

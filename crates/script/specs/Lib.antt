@@ -1,3 +1,4 @@
 pub mod Plain
 pub mod Scripts
 pub mod Tallies
+pub mod Words

@@ -1,10 +1,14 @@
 // The calls of a script, and what they answer.
+ghost use Rattle.std.specs.Prelude.{Some};
+ghost use Rattle.script.specs.Words.{word_of_call};
+
 use boxes::record::BoxRecord;
 use cut::asks::Sense;
 use cut::inspect::Inspection;
 use geometry::axis::AxisOrder;
 use geometry::frame::Point;
 use geometry::refusal::Refusal;
+use std::fmt;
 
 #[derive(PartialEq, Eq, Debug, Drop)]
 pub enum Call {
@@ -65,6 +69,26 @@ pub enum CallName {
     Block(BlockCall),
     Cut(AxisOrder),
     Question(CutCall),
+}
+
+// The word that a call has in a job, with its axis order.
+impl fmt::Display for CallName {
+    ghost output = { λ c. Some (word_of_call c) };
+
+    fn fmt<W: fmt::Write>(&self, f: &mut fmt::Formatter<W>) -> fmt::Result {
+        match self {
+            CallName::Frame => f.write_str("frame"),
+            CallName::Grid => f.write_str("grid"),
+            CallName::Block(BlockCall::Count) => f.write_str("count"),
+            CallName::Block(BlockCall::Corners) => f.write_str("corners"),
+            CallName::Block(BlockCall::Inspect(order)) => write!(f, "inspect {order}"),
+            CallName::Cut(order) => write!(f, "cut {order}"),
+            CallName::Question(CutCall::Volume) => f.write_str("volume"),
+            CallName::Question(CutCall::Find(_, _, _)) => f.write_str("find"),
+            CallName::Question(CutCall::Neighbour(_, _, _)) => f.write_str("neighbour"),
+            CallName::Question(CutCall::Reopen) => f.write_str("reopen"),
+        }
+    }
 }
 
 #[derive(Drop)]
