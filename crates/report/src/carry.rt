@@ -1,9 +1,10 @@
 // A whole job: its text read, its calls made, and its answers written.
 ghost use Rattle.job.specs.Plain.{Reads as ReadsPlainly};
+ghost use Rattle.report.specs.Failures.{failure_message};
 ghost use Rattle.report.specs.Outputs.{Prints};
 ghost use Rattle.report.specs.Plain.{PrintsPlainly};
 ghost use Rattle.script.specs.Plain.{PlainCall};
-ghost use Rattle.std.specs.Prelude.{List, IfOk, None as Absent, string_bytes};
+ghost use Rattle.std.specs.Prelude.{List, IfOk, None as Absent, Some, string_bytes};
 ghost use Rattle.text.specs.Texts.{lines_of};
 
 use crate::output::report_text;
@@ -32,6 +33,8 @@ impl From<AllocError> for Failure {
 }
 
 impl fmt::Display for Failure {
+    ghost output = { λ failure. Some (failure_message failure) };
+
     fn fmt<W: fmt::Write>(&self, f: &mut fmt::Formatter<W>) -> fmt::Result {
         match self {
             Failure::Malformed(error) => write!(f, "{error}"),
