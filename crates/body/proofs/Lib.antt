@@ -9,5 +9,4 @@ pub mod GridSkips
 pub mod Order
 pub mod Outcome
 pub mod Parity
-pub mod Skipping
 pub mod Sums
