@@ -1,6 +1,6 @@
 // Writing what a job answered.
-ghost use Rattle.std.specs.Prelude.{◌≡◌, map, IfOk, Some, string_bytes, vec_items};
-ghost use Rattle.report.specs.Outputs.{block_text, box_lines, counts_text, number_text, point_line, reply_text, report_text, tally_text};
+ghost use Rattle.std.specs.Prelude.{◌≡◌, map, IfOk, Some, string_bytes};
+ghost use Rattle.report.specs.Outputs.{block_text, box_lines, number_text, point_line, reply_text, report_text, tally_text};
 ghost use Rattle.script.specs.Scripts.{reply_of};
 ghost use Rattle.std.specs.List.{flat_map};
 
@@ -87,7 +87,7 @@ impl<'a> fmt::Display for Lines<'a> {
             Answer::Measured(volume) => writeln!(f, "volume: {volume}"),
             Answer::Found(number) => writeln!(f, "find: {}", Number(*number)),
             Answer::Next(number) => writeln!(f, "neighbour: {}", Number(*number)),
-            Answer::Reopened => f.write_str("reopen: granted\n"),
+            Answer::Reopened => writeln!(f, "reopen: granted"),
             Answer::Refused(name, refusal) => writeln!(f, "{name}: refused {}", refusal.number()),
             Answer::NotTaken(name) => writeln!(f, "{name}: not taken"),
         }
@@ -117,7 +117,7 @@ impl fmt::Display for LastBlock {
                     "  last block: {x} x {y} x {z}, {solid} of {cells} cells solid"
                 )
             }
-            None => f.write_str("  last block: none\n"),
+            None => writeln!(f, "  last block: none"),
         }
     }
 }
