@@ -22,7 +22,7 @@ pub(crate) trait Line {
         ensures same { i < extent self.now → (n : ℕ) → i ≤ n → n < result → holds self.now n ≡ holds self.now i };
 }
 
-// Where the stretch that holds i ends. (A `while`: a step goes as far as the line jumps.)
+// Where the stretch that holds i ends. (A `while`, as in `tables::write_all`.)
 pub(crate) fn stretch_end<L: Line>(line: &L, i: u16) -> u16
     requires { (i < L.extent line.now) × (L.holds line.now i ≡ true) }
     ensures { result ≡ reach (L.holds line.now) (L.extent line.now) i }
@@ -95,8 +95,8 @@ fn begins<L: Line>(line: &L, i: u16) -> bool
     line.at(i) && is_first(line, i)
 }
 
-// Whether all is true from `low`, where it is, up to `high`. (A `while`: a step goes as far as the line
-// jumps.)
+// Whether all is true from `low`, where it is, up to `high`. (A `while`, as in
+// `tables::write_all`.)
 fn covers<L: Line>(line: &L, low: u16, high: u16) -> bool
     requires bounds { (low < high) × (high ≤ L.extent line.now) }
     requires first { L.holds line.now low ≡ true }

@@ -84,7 +84,7 @@ fn write_found(found: Option<BoxRecord>, table: &mut [BoxRecord]) -> Option<usiz
 }
 
 // Writes the boxes whose lowest cell lies in a row to the front of the table. The row is walked run by
-// run, so that none of its cells is asked about twice. (A `while`: a step goes to the next run.)
+// run, so that none of its cells is asked about twice. (A `while`, as in `tables::write_all`.)
 fn write_row<'a, B: Body>(
     view: &'a View<'a, B>,
     a: u16,

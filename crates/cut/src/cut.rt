@@ -12,9 +12,8 @@ use geometry::refusal::Refusal;
 pub mod make;
 
 // A body that has been cut, with the order and the number of its boxes. It holds the body until it is
-// reopened. (Its boxes stand in the caller's table, since there is no heap here; so a cut has their number
-// alone.)
-#[derive(Drop)]
+// reopened, and is not `Drop`, so that it has to be. (Its boxes stand in the caller's table, since there is
+// no heap here; so a cut has their number alone.)
 pub struct Cut<B> {
     body: B,
     order: AxisOrder,
@@ -67,6 +66,11 @@ impl<B> Cut<B> {
     pub fn reopen(self) -> B
         ensures { result ≡ self.body }
     {
-        self.body
+        let Cut {
+            body,
+            order: _,
+            count: _,
+        } = self;
+        body
     }
 }

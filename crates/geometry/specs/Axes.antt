@@ -12,6 +12,7 @@ axes_of Yzx = (Y, Z, X)
 axes_of Zxy = (Z, X, Y)
 axes_of Zyx = (Z, Y, X)
 
+-- the axes of an order
 abbrev pub axis_a : AxisOrder → Axis
 axis_a o = (axes_of o).0
 

@@ -1,8 +1,16 @@
 // Reads a job from standard input, carries it out and prints its answers.
 #![tactic(auto)]
 
-use report::program::run_job;
+use anyhow::anyhow;
+use report::program::answer_job;
+use std::io;
 
+// (Once in each program: of what a main reads and prints no contract can tell, and a public function that
+// both call would promise nothing.)
 fn main(rt: HostRuntime) -> anyhow::Result<()> {
-    run_job(&rt)
+    if let Err(failure) = answer_job(rt.alloc(), &mut rt.stdin(), &mut io::writer(&rt))? {
+        eprintln!(rt; "{failure}")?;
+        return Err(anyhow!("the job was not carried out"));
+    }
+    Ok(())
 }

@@ -29,9 +29,10 @@ pub enum Command {
     Reopen,
 }
 
-// What a word stands for. No TryFrom here and below: these types and the trait are of other crates. One
-// look-up in lists of pairs would be no plainer: each type would still need a function, and a proof too,
-// to say that its list follows its spelling.
+// What a word stands for. No TryFrom here and below: it would have to stand with its type, in a crate that
+// knows nothing of jobs and of what can be wrong with them. One look-up in lists of pairs would be no
+// plainer: each type would still need a function, and a proof too, to say that its list follows its
+// spelling.
 fn table_of(word: &[u8]) -> Option<Table>
     ensures { Spells table_word result word.now }
 {

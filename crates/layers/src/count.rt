@@ -12,7 +12,7 @@ use geometry::axis::Axis;
 use geometry::frame::Cell;
 
 // The sum of what `count` gives for the planes along an axis. Planes that a skip passes over count as
-// the one it starts from. (A `while`: a step goes as far as a skip.)
+// the one it starts from. (A `while`, as in `tables::write_all`.)
 fn sum_planes<F: Fn(u16) -> u32>(table: &SkipTable, count: F) -> u32
     requires callable { F.IsAlwaysCallable count }
     requires small { (p r : ℕ) → F.post count p r → r ≤ 1048576 }

@@ -37,7 +37,8 @@ pub fn write_one<E: Copy>(entry: E, table: &mut [E]) -> Option<usize>
 }
 
 // Writes all planes to the front of the table, and stops where it is full. (Here and in other walks a
-// `while`: a step goes as far as the listing says, which no range and no iterator of the library does.)
+// `while`, since a step goes as far as a skip. A `for` over `successors` was tried: in a generic function
+// the check does not state such a loop.)
 pub fn write_all<E: Copy, L: Listing<E>>(listing: &L, table: &mut [E]) -> Option<usize>
     ensures { record { count = result; table = table.new } ≡ placed (listed (L.part listing.now) (L.parts listing.now) 0) table.old }
 {
