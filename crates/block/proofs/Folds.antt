@@ -1,7 +1,8 @@
 -- Loops over a list: parities and least planes, by what is left of the list.
-use Rattle.std.proofs.Common.{◌≡◌, ℕ, ◌+◌, ◌%◌, ◌<◌, ◌≤◌, min, Bool, true, false, cond, ltb, nat_eq, List, [], ◌∷◌, map, length, get_or, drop, sym, refl, ap, ◌∙◌, arith}
+use Rattle.std.proofs.Common.{◌≡◌, ℕ, ◌+◌, ◌%◌, ◌<◌, ◌≤◌, min, Bool, true, false, cond, ltb, nat_eq, List, [], ◌∷◌, map, length, get_or, drop, sym, refl, ap, ◌∙◌, not, arith}
 use Rattle.std.proofs.lemmas.List.{at_drop_more, at_drop_all}
 use Rattle.std.proofs.lemmas.List.Sums.{sum_by-cons}
+use Rattle.std.specs.Bool.{beq}
 use Rattle.std.specs.List.{count_by, filter, fold}
 use Rattle.geometry.specs.declared.axis.Axis.{Axis}
 use Rattle.geometry.specs.declared.frame.Point.{Point}
@@ -9,6 +10,13 @@ use Rattle.body.specs.Solids.{differ}
 use Rattle.body.specs.Corners.{parity}
 use Rattle.body.proofs.Parity.{differ_assoc, differ_false}
 use Rattle.block.specs.Skips.{along, next_plane}
+
+-- the code's exclusive or
+pub xor_differ : (a b : Bool) → not (beq a b) ≡ differ a b
+xor_differ true true = refl
+xor_differ true false = refl
+xor_differ false true = refl
+xor_differ false false = refl
 
 module _ {A : Type 0} (Q : A → Bool) (l : List A) (i : ℕ) where
   pub parity_on : (d : A) (so_far next whole : Bool) → i < length l → differ so_far (parity Q (drop i l)) ≡ whole → next ≡ differ so_far (Q (get_or l i d)) → differ next (parity Q (drop (i + 1) l)) ≡ whole

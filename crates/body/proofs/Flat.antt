@@ -1,5 +1,5 @@
 -- There are no corners in a plane whose section is as the one before.
-use Rattle.std.proofs.Common.{◌≡◌, ℕ, zero, suc, ◌<◌, ◌≤◌, Bool, false, cond, [], ◌∷◌, sym, ap, ◌∙◌, ⊎_elim, arith}
+use Rattle.std.proofs.Common.{◌≡◌, ℕ, zero, suc, ◌+◌, ◌<◌, ◌≤◌, Bool, false, cond, [], ◌∷◌, sym, ap, ◌∙◌, ⊎_elim, arith}
 use mathlib.Core.Path.{fun_ext}
 use Rattle.std.proofs.lemmas.Bool.{cases_lt}
 use Rattle.geometry.specs.declared.axis.Axis.{Axis}
@@ -30,6 +30,14 @@ flat_between m a p q s (suc n) p<n n<q u v =
 
 pub no_corner : (m : Solid) (x y z : ℕ) → corner m.holds x y z ≡ false → corner_at m x y z ≡ []
 no_corner m x y z e = ap (λ b. cond b (point x y z ∷ []) []) e
+
+-- a walk stays within the planes 0 to the side
+pub walk_bounds : (m : Solid) (a : Axis) (p r : ℕ) → Walks m a p r → p < m.side a + 1 → (p < r) × (r ≤ m.side a + 1)
+walk_bounds m a p r w h =
+    ⊎_elim
+    (λ (below : p < m.side a). let b = (w.inside below).inside below in (b.0, omega (arith, b.1)))
+    (λ (past : m.side a ≤ p). let e = w.past past in (omega (arith, e), omega (arith, e)))
+    (cases_lt p (m.side a))
 
 -- and passes over no corners
 pub walk_flat : (m : Solid) (a : Axis) (p r : ℕ) → Walks m a p r → (n : ℕ) → p < n → n < r → (u v : ℕ) → corner_in a m.holds n u v ≡ false

@@ -10,3 +10,4 @@ pub mod Order
 pub mod Outcome
 pub mod Parity
 pub mod Sums
+pub mod Skipping

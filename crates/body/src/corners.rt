@@ -56,6 +56,8 @@ impl<'a, B: Body> Listing<Point> for RowCorners<'a, B> {
 
     ghost parts = { λ l. (B.Body.meaning l.view.now.body.now).side Z + 1 };
 
+    ghost ready = { λ _. Unit {0} };
+
     fn planes(&self) -> u16 {
         self.view.c.side + 1
     }
@@ -88,6 +90,8 @@ impl<'a, B: Body> Listing<Point> for PlaneCorners<'a, B> {
 
     ghost parts = { λ l. (B.Body.meaning l.view.now.body.now).side Y + 1 };
 
+    ghost ready = { λ _. Unit {0} };
+
     fn planes(&self) -> u16 {
         self.view.b.side + 1
     }
@@ -119,6 +123,8 @@ impl<'a, B: Body> Listing<Point> for BodyCorners<'a, B> {
     ghost part = { λ l. plane_corners (B.Body.meaning l.view.now.body.now) };
 
     ghost parts = { λ l. (B.Body.meaning l.view.now.body.now).side X + 1 };
+
+    ghost ready = { λ _. Unit {0} };
 
     fn planes(&self) -> u16 {
         self.view.a.side + 1

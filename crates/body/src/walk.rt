@@ -1,6 +1,6 @@
 // Walks over the planes of a body: each skip is asked for once, and kept in a table.
 ghost use Rattle.std.specs.Prelude.{◌≡◌, ℕ, ◌<◌, ◌≤◌, slice_index};
-ghost use Rattle.body.specs.Indexes.{Indexed};
+ghost use Rattle.body.specs.Indexes.{Indexed, Walks};
 ghost use Rattle.body.specs.Solids.{Inside, Small};
 ghost use Rattle.geometry.specs.Axes.{axis_a, axis_b, axis_c};
 
@@ -39,7 +39,6 @@ pub fn skip_table<B: Body>(body: &B, axis: Axis) -> SkipTable
 }
 
 impl SkipTable {
-    ghost use Rattle.body.specs.Indexes.{Walks};
     ghost use Rattle.body.specs.Solids.{Skips, Solid};
     ghost use Rattle.geometry.specs.declared.axis.Axis.{Axis as TheAxis};
 
@@ -59,6 +58,18 @@ impl SkipTable {
         } else {
             self.side + 1
         }
+    }
+}
+
+// The same by the body and any array of skips, which are lawful where the array is a table of them.
+pub fn walk_on<B: Body>(body: &B, axis: Axis, next: &[u16; PLANES], plane: u16) -> u16
+    ensures { Indexed (B.meaning body.now) axis ((B.meaning body.now).side axis) next.now → Walks (B.meaning body.now) axis plane result }
+{
+    let side = body.frame().side(axis);
+    if plane < side {
+        next[plane as usize]
+    } else {
+        side + 1
     }
 }
 

@@ -33,6 +33,11 @@ module _ (Q : ℕ → Bool) (n : ℕ) where
       found_first (λ j. not (Q j)) i n r h
       (record { from = w.from; to = w.to; none = λ k a b. not_from_true (Q k) (w.all k a b); here = λ l. not_from_false (Q r) (w.stop l) })
 
+  -- a step of a walk: true up to i, as at i up to j, and true at i
+  pub all_further : (lo i j : ℕ) → ((k : ℕ) → lo ≤ k → k < i → Q k ≡ true) → ((k : ℕ) → i ≤ k → k < j → Q k ≡ Q i) → Q i ≡ true → (k : ℕ) → lo ≤ k → k < j → Q k ≡ true
+  all_further lo i j before same here k a b =
+      ⊎_elim (λ (l : k < i). before k a l) (λ (l : i ≤ k). same k l b ∙ here) (cases_lt k i)
+
   pub all_true_is : (k i : ℕ) → ((j : ℕ) → i ≤ j → j < i + k → Q j ≡ true) → all_true Q k i ≡ true
   all_true_is zero i all = refl
   all_true_is (suc k) i all = and_from (Q i) _ (all i (omega arith) (omega arith)) (all_true_is k (suc i) (λ j a b. all j (omega arith) (omega arith)))

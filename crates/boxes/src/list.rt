@@ -118,6 +118,8 @@ impl<'a, B: Body> Listing<BoxRecord> for PlaneBoxes<'a, B> {
 
     ghost parts = { λ l. side_b (B.Body.meaning l.view.now.body.now) l.view.now.order };
 
+    ghost ready = { λ _. Unit {0} };
+
     fn planes(&self) -> u16 {
         self.view.b.side
     }
@@ -141,6 +143,8 @@ impl<'a, B: Body> Listing<BoxRecord> for BodyBoxes<'a, B> {
     ghost part = { λ l. plane_records (B.Body.meaning l.view.now.body.now) l.view.now.order };
 
     ghost parts = { λ l. side_a (B.Body.meaning l.view.now.body.now) l.view.now.order };
+
+    ghost ready = { λ _. Unit {0} };
 
     fn planes(&self) -> u16 {
         self.view.a.side

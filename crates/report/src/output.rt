@@ -1,6 +1,6 @@
 // Writing what a job answered.
-ghost use Rattle.std.specs.Prelude.{◌≡◌, map, IfOk, Some, string_bytes};
-ghost use Rattle.report.specs.Outputs.{block_text, box_lines, number_text, point_line, reply_text, report_text, tally_text};
+ghost use Rattle.std.specs.Prelude.{◌≡◌, ◌++◌, map, vec_items, IfOk, OnOk, Some, string_bytes};
+ghost use Rattle.report.specs.Outputs.{answers_text, block_text, blocks_text, box_lines, number_text, point_line, reply_text, report_text, tally_text};
 ghost use Rattle.script.specs.Scripts.{reply_of};
 ghost use Rattle.std.specs.List.{flat_map};
 
@@ -140,27 +140,38 @@ impl<'a> fmt::Display for Tally<'a> {
     }
 }
 
-// All that a job prints.
+// How many blocks were read, the last one, and how the calls went.
 #[derive(Drop)]
-struct Printed<'a>(&'a Report);
+struct Summary<'a>(&'a Report);
 
-impl<'a> fmt::Display for Printed<'a> {
-    ghost output = { λ p. Some (report_text p.0.now) };
+impl<'a> fmt::Display for Summary<'a> {
+    ghost output = { λ s. Some (blocks_text s.0.now.blocks ++ block_text s.0.now.last ++ tally_text (map reply_of (vec_items s.0.now.answers))) };
 
     fn fmt<W: fmt::Write>(&self, f: &mut fmt::Formatter<W>) -> fmt::Result {
-        let answers = self.0.answers.as_slice();
-        for answer in answers {
-            Lines(answer).fmt(f)?;
-        }
         writeln!(f, "\nSummary\n  blocks read: {}", self.0.blocks)?;
         LastBlock(self.0.last).fmt(f)?;
-        Tally(answers).fmt(f)
+        Tally(self.0.answers.as_slice()).fmt(f)
     }
+}
+
+// The lines of the answers, behind the text.
+fn push_answers(heap: Global, text: &mut String, answers: &[Answer]) -> Result<(), AllocError>
+    ensures { OnOk result (string_bytes text.new ≡ string_bytes text.old ++ answers_text answers.now) }
+{
+    for answer in answers {
+        let lines = answer_text(heap, answer)?;
+        text.push_str(lines.as_str())?;
+    }
+    Ok(())
 }
 
 // All that a job prints.
 pub fn report_text(heap: Global, report: &Report) -> Result<String, AllocError>
     ensures { IfOk result (λ s. string_bytes s ≡ report_text report.now) }
 {
-    Printed(report).to_string(heap)
+    let mut text = String::new(heap);
+    push_answers(heap, &mut text, report.answers.as_slice())?;
+    let summary = Summary(report).to_string(heap)?;
+    text.push_str(summary.as_str())?;
+    Ok(text)
 }

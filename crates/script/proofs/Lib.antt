@@ -2,4 +2,5 @@ pub mod Far
 pub mod Fronts
 pub mod Making
 pub mod Plainly
+pub mod Running
 pub mod Tallying

@@ -19,7 +19,7 @@ use std::alloc::{AllocError, Global};
 
 // The frame and the block in force, and how many blocks were read.
 #[derive(Clone, Copy)]
-struct Session<'a> {
+pub struct Session<'a> {
     frame: Option<Frame>,
     block: Option<PackedGrid<'a>>,
     blocks: usize,

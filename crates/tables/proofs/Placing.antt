@@ -132,10 +132,13 @@ module _ {A : Type 0} where
       both (sym (cond-false _ _ _ (lt-leb (n + length (l ++ m)) (length table) over))) (ap (λ t. take n table ++ t) (ap (λ w. w.table) e ∙ sym (overlay_full l m (drop n table) (omega (arith, long)))))
 
   -- the same of a write to the rest of a table, from its entry n on
-  rest_is : (n : ℕ) (table : List A) → take (length table - n) (drop n table) ≡ drop n table
+  pub rest_is : (n : ℕ) (table : List A) → take (length table - n) (drop n table) ≡ drop n table
   rest_is n table = take_all (length table - n) (drop n table) (omega (arith, length-drop n table))
 
-  put_rest : (n : ℕ) (table after : List A) → put_mid n (length table - n) table after ≡ take n table ++ after
+  pub rest_length : (n : ℕ) (table : List A) → length (take (length table - n) (drop n table)) ≡ length table - n
+  rest_length n table = ap length (rest_is n table) ∙ length-drop n table
+
+  pub put_rest : (n : ℕ) (table after : List A) → put_mid n (length table - n) table after ≡ take n table ++ after
   put_rest n table after = ap (λ t. take n table ++ (after ++ t)) (drop_all (length table - n) (drop n table) (omega (arith, length-drop n table))) ∙ ap (λ t. take n table ++ t) (append-nil after)
 
   pub went_on : (n k : ℕ) (l m table after : List A) (r : Option ℕ) → n ≤ length table → ◌≡◌ {A = Written A} (record { count = r; table = after }) (placed l (take (length table - n) (drop n table))) → r ≡ Some k → (n + k ≤ length table) × (length (put_mid n (length table - n) table after) ≡ length table) × (placed_behind (n + k) m (put_mid n (length table - n) table after) ≡ placed_behind n (l ++ m) table)

@@ -14,4 +14,4 @@ pub returns-clause-boxes : goal.returns-clause-boxes
 returns-clause-boxes g c =
     let m = g.B.Body.meaning c.args.body.now in
     let o = c.args.order in
-    c.fill.ensures ∙ ap (λ l. filled l c.args.table.now) (listed_map (record_of o) (plane_boxes (cells m o) (side_a m o) (side_b m o) (side_c m o)) (side_a m o) 0)
+    c.fill.ensures tt ∙ ap (λ l. filled l c.args.table.now) (listed_map (record_of o) (plane_boxes (cells m o) (side_a m o) (side_b m o) (side_c m o)) (side_a m o) 0)

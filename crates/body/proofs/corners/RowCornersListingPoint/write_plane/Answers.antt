@@ -5,7 +5,7 @@ use Rattle.body.proofs.Flat.{no_corner}
 use Rattle.body.proofs.corners.RowCornersListingPoint.write_plane.Goals as goal
 
 pub returns-else-is_corner : goal.returns-else-is_corner
-returns-else-is_corner g c =
+returns-else-is_corner g c _ =
     let self = c.args.self.now in
     let m = g.B.Body.meaning self.view.now.body.now in
     let none = no_corner m self.x self.y c.args.plane (sym c.if-is_corner.ensures) in

@@ -4,4 +4,4 @@ use Rattle.body.proofs.grid.Row.first_change.Given as goal
 
 -- no change in the words up to here
 abbrev pub invariant-loop-w : goal.invariant-loop-w
-invariant-loop-w l = (l.from / 64 ≤ l.w) × ((n : ℕ) → l.from ≤ n → n < 64 * l.w → row_differs l.self.words.now l.self.base n ≡ false)
+invariant-loop-w l = (l.from / 64 < l.w) × ((n : ℕ) → l.from ≤ n → n < 64 * l.w → row_differs l.self.words.now l.self.base n ≡ false)

@@ -7,10 +7,10 @@ use Rattle.boxes.specs.Records.{record_of}
 use Rattle.boxes.proofs.list.BodyBoxesListingBoxRecord.write_plane.Goals as goal
 
 pub returns : goal.returns
-returns g c =
+returns g c _ =
     let self = c.args.self.now in
     let view = self.view.now in
     let m = g.B.Body.meaning view.body.now in
     let o = view.order in
-    c.write_all.ensures
+    c.write_all.ensures tt
     ∙ ap (λ l. placed l c.args.table.now) (listed_map (record_of o) (row_boxes (cells m o) (side_a m o) (side_b m o) (side_c m o) c.args.plane) (side_b m o) 0)

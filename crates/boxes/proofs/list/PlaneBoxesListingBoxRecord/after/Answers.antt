@@ -3,7 +3,7 @@ use Rattle.boxes.proofs.Passing.{passed_b}
 use Rattle.boxes.proofs.list.PlaneBoxesListingBoxRecord.after.Goals as goal
 
 pub returns-clause-between : goal.returns-clause-between
-returns-clause-between g c =
+returns-clause-between g c _ =
     let self = c.args.self.now in
     let view = self.view.now in
     let m = g.B.Body.meaning view.body.now in

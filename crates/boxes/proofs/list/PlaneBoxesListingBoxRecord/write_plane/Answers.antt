@@ -7,7 +7,7 @@ use Rattle.boxes.specs.Records.{record_of}
 use Rattle.boxes.proofs.list.PlaneBoxesListingBoxRecord.write_plane.Goals as goal
 
 pub returns : goal.returns
-returns g c =
+returns g c _ =
     let self = c.args.self.now in
     let view = self.view.now in
     let m = g.B.Body.meaning view.body.now in
