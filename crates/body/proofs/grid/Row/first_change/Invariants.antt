@@ -1,7 +1,10 @@
-use Rattle.std.proofs.Common.{◌≡◌, ℕ, ◌*◌, ◌/◌, ◌<◌, ◌≤◌, false}
+use Rattle.std.proofs.Common.{◌≡◌, ℕ, ◌-◌, ◌<◌, ◌≤◌, false}
 use Rattle.body.specs.Grids.{row_differs}
 use Rattle.body.proofs.grid.Row.first_change.Given as goal
 
--- no change in the words up to here
-abbrev pub invariant-loop-w : goal.invariant-loop-w
-invariant-loop-w l = (l.from / 64 < l.w) × ((n : ℕ) → l.from ≤ n → n < 64 * l.w → row_differs l.self.words.now l.self.base n ≡ false)
+-- no change up to here
+abbrev pub invariant-loop-at : goal.invariant-loop-at
+invariant-loop-at l = (l.from ≤ l.at) × ((n : ℕ) → l.from ≤ n → n < l.at → row_differs l.self.words.now l.self.base n ≡ false)
+
+abbrev pub decreases-loop-at : goal.decreases-loop-at
+decreases-loop-at l = l.limit - l.at
