@@ -36,6 +36,13 @@ changes_at words base w c (suc b) h pos small carry =
 abbrev pub zeros_from : ℕ → ℕ → ℕ
 zeros_from r at = count_trailing_zeros 64 (r / 2 ^ (at % 64))
 
+-- from the first place of a word on, all of its zeros
+pub zeros_whole : (r w : ℕ) → zeros_from r (64 * w) ≡ count_trailing_zeros 64 r
+zeros_whole r w =
+    let low : (64 * w) % 64 ≡ 0 = omega arith in
+    let all : r / 2 ^ 0 ≡ r = omega arith in
+    ap (λ (k : ℕ). count_trailing_zeros 64 (r / 2 ^ k)) low ∙ ap (count_trailing_zeros 64) all
+
 -- with r the changes of the word of a place, no cell from there on changes until past those zeros
 module _ (words : List ℕ) (base at r : ℕ) (positive : 0 < at)
     (is : (b : ℕ) → b < 64 → 0 < 64 * (at / 64) + b → bit r b ≡ row_differs words base (64 * (at / 64) + b)) where

@@ -38,6 +38,17 @@ search_found Q i e h = subst (λ (n : ℕ). Found Q i n (first Q (e - i) i)) (om
 pub found_first : (Q : ℕ → Bool) (i e r : ℕ) → i ≤ e → Found Q i e r → r ≡ first Q (e - i) i
 found_first Q i e r h f = found_once Q i e r _ f (search_found Q i e h)
 
+-- what is found behind numbers that all fail
+pub first_later : (Q : ℕ → Bool) (i j e r : ℕ) → i ≤ j → j ≤ e → ((n : ℕ) → i ≤ n → n < j → Q n ≡ false) → r ≡ first Q (e - j) j → r ≡ first Q (e - i) i
+first_later Q i j e r a b none is =
+    let f = subst (Found Q j e) (sym is) (search_found Q j e b) in
+    found_first Q i e r (omega arith) (record {
+      from = omega (arith, f.from);
+      to = f.to;
+      none = λ n l h. ⊎_elim (λ (s : n < j). none n l s) (λ (s : j ≤ n). f.none n s h) (cases_lt n j);
+      here = f.here;
+    })
+
 -- tests that agree on the way find the same
 pub first_same : (Q R : ℕ → Bool) (i e : ℕ) → i ≤ e → ((n : ℕ) → i ≤ n → n < e → Q n ≡ R n) → first Q (e - i) i ≡ first R (e - i) i
 first_same Q R i e h same =

@@ -57,21 +57,36 @@ impl Row<'_> {
         word ^ (word << 1 | before)
     }
 
-    // The first place from `from` on and below `limit` at which the row changes, or `limit`. (A `while`: a
-    // `for` over the words was tried, in two forms, and takes half as much again where rows have one word.)
+    // The first place from the beginning of word `start` on and below `limit` at which the row changes, or
+    // `limit`. (Apart from `first_change`, so that rows of one word are searched in a short loop.)
+    #[inline(never)]
+    fn later_change(self, start: u16, limit: u16) -> u16
+        requires { (0 < start) × ((64 * start ≤ limit) × (limit ≤ 1024)) }
+        ensures { result ≡ first (row_differs self.entry.words.now self.entry.base) (limit - 64 * start) (64 * start) }
+    {
+        for w in start..limit.div_ceil(64) {
+            let zeros = self.changes(w).trailing_zeros() as u16;
+            if zeros < 64 {
+                return limit.min(64 * w + zeros);
+            }
+        }
+        limit
+    }
+
+    // The first place from `from` on and below `limit` at which the row changes, or `limit`.
     fn first_change(self, from: u16, limit: u16) -> u16
         requires { (0 < from) × ((from ≤ limit) × (limit ≤ 1024)) }
         ensures { result ≡ first (row_differs self.entry.words.now self.entry.base) (limit - from) from }
     {
-        let mut at = from;
-        while at < limit {
-            let zeros = (self.changes(at / 64) >> (at % 64)).trailing_zeros() as u16;
-            if zeros < 64 {
-                return limit.min(at + zeros);
-            }
-            at = (at / 64 + 1) * 64;
+        let word = from / 64;
+        let zeros = (self.changes(word) >> (from % 64)).trailing_zeros() as u16;
+        if zeros < 64 {
+            return limit.min(from + zeros);
         }
-        limit
+        if limit <= 64 * (word + 1) {
+            return limit;
+        }
+        self.later_change(word + 1, limit)
     }
 
     // The number of solid cells of the row, which has `side` cells.

@@ -65,11 +65,11 @@ impl SkipTable {
 pub fn walk_on<B: Body>(body: &B, axis: Axis, next: &[u16; PLANES], plane: u16) -> u16
     ensures { Indexed (B.meaning body.now) axis ((B.meaning body.now).side axis) next.now → Walks (B.meaning body.now) axis plane result }
 {
-    let side = body.frame().side(axis);
-    if plane < side {
+    let last = body.frame().side(axis);
+    if plane < last {
         next[plane as usize]
     } else {
-        side + 1
+        last + 1
     }
 }
 

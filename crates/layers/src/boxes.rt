@@ -29,7 +29,8 @@ impl<'a> BoxList<'a> {
     }
 }
 
-// Whether one of the boxes holds the cell.
+// Whether one of the boxes holds the cell. (Not inlined: by itself the loop compares coordinates side by side.)
+#[inline(never)]
 fn some_holds(boxes: &[Cuboid], cell: Cell) -> bool
     ensures { result ≡ some_box boxes.now cell.x cell.y cell.z }
 {
